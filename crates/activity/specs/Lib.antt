@@ -1,0 +1,3 @@
+pub mod Activities
+pub mod Relations
+pub mod Rule
