@@ -1,11 +1,11 @@
 -- The rule of the activity book is lawful. Assumes nothing.
-use mathlib.Core.Path.{_≡_, refl, sym, ap, subst, _∙_}
-use mathlib.Core.Bool.{Bool, true, false, cond, not, _&&_}
+use mathlib.Core.Path.{_≡_, sym, ap, subst, _∙_}
+use mathlib.Core.Bool.{true, false, cond, not, _&&_}
 use mathlib.Core.Logic.{_⊎_, inl, inr, ⊎-elim}
-use Prim.Native.Nat.{ℕ, suc, _+_, _-_, _*_, _/_, _≤_, _<_}
+use Prim.Native.Nat.{ℕ, _+_, _-_, _/_, _≤_}
 use native.Mathlib.Omega.{arith}
-use lib.Dec.{eqb, leb}
-use lib.IntN.{ℤ, pos, negsuc, negℤ, natAbs}
+use lib.Dec.{eqb}
+use lib.IntN.{ℤ, pos, negsuc, natAbs}
 use lib.Signed.{_≤ℤ_}
 use Rattle.std.proofs.shelf.Signed.{ints}
 use Rattle.std.proofs.shelf.Tests.{cond-true, cond-false, and-parts, leb-true, eqb-true}
@@ -14,7 +14,7 @@ use Rattle.std.specs.declared.option.Option.the-variants.{Some, None}
 use Rattle.network.specs.declared.gap.Gap.{Gap}
 use Rattle.network.specs.declared.gap.Owner.{Owner}
 use Rattle.network.specs.declared.gap.OwnerLayer.the-variants.{Book}
-use Rattle.network.specs.Meanings.{Outside, Bounded, unowned}
+use Rattle.network.specs.Meanings.{Bounded}
 use Rattle.book.specs.declared.date.Bound.{Bound}
 use Rattle.book.specs.declared.date.Bound.the-variants.{Least, Most}
 use Rattle.book.specs.declared.refusal.Refusal.{Refusal}
@@ -22,7 +22,6 @@ use Rattle.book.specs.declared.refusal.Refusal.the-variants.{OutOfRange, SameEn
 use Rattle.book.specs.Refusals.{number}
 use Rattle.book.specs.Rules.{within}
 use Rattle.book.specs.Laws.{LawfulRule, OwnsIn}
-use Rattle.book.specs.Calls.{unless, _or-else_}
 use Rattle.book.proofs.Options.{cond-some, let-through, cond-ways, mapped-some, unless-some, either-some, none-is-not}
 use Rattle.book.proofs.Ranges.{within-true, within-false, within-parts}
 use Rattle.activity.specs.declared.entry.Activity.{Activity}

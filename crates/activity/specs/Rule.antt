@@ -1,4 +1,4 @@
--- The rule of the activity book: 400 lines, 800 events, 800 places. Assumes nothing.
+-- The rule of the activity book: 400 lines, events 0 to 800, 800 places. Assumes nothing.
 --     isActivity o    an activity stands there
 --     named ls p      a relation on one of the lines names line p
 --     activityRule    what the book fixes
@@ -18,7 +18,6 @@ use Rattle.book.specs.Rules.{within}
 use Rattle.book.specs.Calls.{unless, _or-else_}
 use Rattle.activity.specs.declared.entry.Entry.{Entry}
 use Rattle.activity.specs.declared.entry.Entry.the-variants as entry
-use Rattle.activity.specs.declared.entry.Activity.{Activity}
 use Rattle.activity.specs.declared.entry.Relation.{Relation}
 use Rattle.activity.specs.Activities.{activityInRange, runsFor, endsBy}
 use Rattle.activity.specs.Relations.{lagInRange, relates}
@@ -42,8 +41,8 @@ abbrev pub named : (ℕ → Option Entry) → ℕ → Bool
 named ls p = someUpTo 400 (λ q. names (ls q) p)
 
 -- a relation elsewhere names this activity
-abbrev pub heldBy : (ℕ → Option Entry) → ℕ → Bool
-heldBy ls p = isActivity (ls p) && named ls p
+abbrev pub namedElsewhere : (ℕ → Option Entry) → ℕ → Bool
+namedElsewhere ls p = isActivity (ls p) && named ls p
 
 abbrev pub firstPlace : ℕ → ℕ
 firstPlace p = 2 * p - 1
@@ -59,7 +58,7 @@ ownerOf place = cond (within place 800) (record { layer = Book; number = (place 
 abbrev pub relationInRange : Relation → Bool
 relationInRange r = lagInRange (r .lag) && (within (r .first) 400 && within (r .second) 400)
 
--- an entry that no activity book takes asks for nothing
+-- an entry whose numbers are out of range asks for nothing
 abbrev pub gapOf : ℕ → Entry → ℕ → Option Gap
 gapOf p (entry.Activity a) place = cond (within p 400 && activityInRange a) (cond (eqb place (firstPlace p)) (Some (runsFor p a)) (cond (eqb place (secondPlace p)) (endsBy p a) None)) None
 gapOf p (entry.Relation r) place = cond (within p 400 && relationInRange r) (cond (eqb place (firstPlace p)) (Some (relates r)) None) None
@@ -82,6 +81,6 @@ activityRule = record {
   lineGap = gapOf;
   dateGap = λ q d place. None;
   enters = judgedBy;
-  strikes = λ ls p. not (heldBy ls p);
-  alters = λ ls p e. not (heldBy ls p) || isActivity (Some e);
+  strikes = λ ls p. not (namedElsewhere ls p);
+  alters = λ ls p e. not (namedElsewhere ls p) || isActivity (Some e);
 }

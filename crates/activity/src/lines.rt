@@ -7,7 +7,7 @@ ghost use Rattle.std.specs.declared.option.Option.the-variants.{None};
 ghost use Rattle.book.specs.Calls.{put as replacing};
 ghost use Rattle.table.specs.Standing.{standing};
 ghost use Rattle.activity.specs.declared.entry.Entry.the-variants as entry;
-ghost use Rattle.activity.specs.Rule.{activityRule, isActivity, names, named, heldBy, judgedBy};
+ghost use Rattle.activity.specs.Rule.{activityRule, isActivity, names, named, namedElsewhere, judgedBy};
 use crate::entry::Entry;
 use crate::entry::Relation;
 use crate::places::ends_by;
@@ -67,8 +67,8 @@ impl ActivityLines {
     }
 
     /// Whether an activity stands on line `p` that a relation elsewhere names.
-    fn is_held(&self, p: usize) -> bool
-        ensures { λ r. ⌜ r ≡ heldBy (standing (now (self .entry) .table)) p ⌝ }
+    fn is_named_elsewhere(&self, p: usize) -> bool
+        ensures { λ r. ⌜ r ≡ namedElsewhere (standing (now (self .entry) .table)) p ⌝ }
     {
         is_activity(self.table.get(p)) && self.is_named(p)
     }
@@ -176,10 +176,10 @@ pub impl Lines for ActivityLines as ActivityLinesLines {
     }
 
     fn strikes(&self, p: usize) -> bool {
-        !self.is_held(p)
+        !self.is_named_elsewhere(p)
     }
 
     fn alters(&self, p: usize, e: Entry) -> bool {
-        !self.is_held(p) || is_activity(Some(e))
+        !self.is_named_elsewhere(p) || is_activity(Some(e))
     }
 }

@@ -2,7 +2,6 @@
 
 ghost use mathlib.Core.Path.{_≡_};
 ghost use Prim.Native.Nat.{_≤_, _<_};
-ghost use lib.Dec.{T};
 ghost use Rattle.book.specs.Rules.{within};
 ghost use Rattle.activity.specs.Activities.{runsFor, endsBy, startOf, finishOf};
 ghost use Rattle.activity.specs.Relations.{firstEvent, secondEvent, follows};

@@ -1,4 +1,4 @@
--- The rule of the arrow book: 400 lines, 200 nodes as events, 400 places. Assumes nothing.
+-- The rule of the arrow book: 400 lines, nodes 1 to 200 as events, 400 places. Assumes nothing.
 --     arrowRule       what the book fixes
 use mathlib.Core.Bool.{Bool, true, cond, not, _&&_}
 use Prim.Native.Nat.{ℕ}
@@ -29,7 +29,7 @@ leads a = record { left = a .from; reached = a .to; days = pos (a .days) }
 abbrev pub ownerOf : ℕ → Owner
 ownerOf place = cond (within place 400) (record { layer = Book; number = place }) unowned
 
--- an arrow that no arrow book takes asks for nothing
+-- an arrow whose numbers are out of range asks for nothing
 abbrev pub gapOf : ℕ → Arrow → ℕ → Option Gap
 gapOf p a place = cond (within p 400 && arrowInRange a) (cond (eqb place p) (Some (leads a)) None) None
 

@@ -1,18 +1,16 @@
 -- A lawful rule makes a lawful network. Assumes nothing.
-use mathlib.Core.Path.{_≡_, refl, sym, ap, subst, _∙_}
+use mathlib.Core.Path.{_≡_, sym, ap, _∙_}
 use mathlib.Core.Logic.{_⊎_, inl, inr, ⊎-elim}
 use Prim.Native.Nat.{ℕ, _≤_, _<_}
 use native.Mathlib.Omega.{arith}
 use Rattle.std.proofs.shelf.Tests.{cases-lt}
-use Rattle.std.specs.declared.option.Option.{Option}
 use Rattle.std.specs.declared.option.Option.the-variants.{Some, None}
 use Rattle.network.specs.declared.gap.Gap.{Gap}
 use Rattle.network.specs.declared.gap.OwnerLayer.{OwnerLayer}
 use Rattle.network.specs.declared.gap.OwnerLayer.the-variants.{Book, Dates, Floor}
-use Rattle.network.specs.Meanings.{Meaning, Lawful, Outside, Bounded}
-use Rattle.book.specs.declared.date.Date.{Date}
-use Rattle.book.specs.Rules.{Rule, BookMeaning, after, held, networkOf}
-use Rattle.book.specs.Laws.{LawfulRule, LawfulBook, OwnsIn}
+use Rattle.network.specs.Meanings.{Lawful, Outside, Bounded}
+use Rattle.book.specs.Rules.{BookMeaning, held, networkOf}
+use Rattle.book.specs.Laws.{LawfulRule, OwnsIn}
 use Rattle.book.proofs.Options.{after-some, none-is-not}
 
 -- a number is one of the places, or it is not

@@ -1,9 +1,8 @@
 -- What the test `within` tells. Assumes nothing.
 use mathlib.Core.Path.{_≡_}
-use mathlib.Core.Bool.{true, false, _&&_}
+use mathlib.Core.Bool.{true, false}
 use mathlib.Core.Logic.{_⊎_, inl, inr, ⊎-elim}
-use Prim.Native.Nat.{ℕ, _≤_, _<_}
-use native.Mathlib.Omega.{arith}
+use Prim.Native.Nat.{ℕ, _≤_}
 use lib.Dec.{leb}
 use Rattle.std.proofs.shelf.Tests.{and-from, and-parts, and-cases, le-leb, leb-true, leb-false, lt-leb, and-left, and-right}
 use Rattle.network.specs.Meanings.{Outside}

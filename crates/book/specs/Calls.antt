@@ -98,6 +98,7 @@ module _ {E : Type 0} where
   carriedOut m (strike p) = withLine m p None
   carriedOut m (date q d) = withDate m q (Some d)
   carriedOut m (clear q) = withDate m q None
+  -- nothing stands past the date places that were there, so the new ones are empty
   carriedOut m layer = record { rule = layerRule (m .rule); ledger = m .ledger }
   carriedOut m look = m
 

@@ -37,7 +37,7 @@ asked d = askedBy (d .bound) (d .event) (d .day)
 abbrev pub layerOwner : {E : Type 0} → Rule E → ℕ → Owner
 layerOwner r p = cond (leb p (r .places)) (r .owner p) (cond (leb p (r .places + added (r .places))) (record { layer = Dates; number = r .dates + (p - r .places) }) unowned)
 
--- a date that no book of r takes asks for nothing
+-- a date out of range asks for nothing
 abbrev pub layerGap : {E : Type 0} → Rule E → ℕ → Date → ℕ → Option Gap
 layerGap r q d p = cond (leb q (r .dates)) (r .dateGap q d p) (cond (eqb p (r .places + (q - r .dates)) && dateInRange (r .events) d) (Some (asked d)) None)
 

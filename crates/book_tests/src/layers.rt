@@ -169,6 +169,33 @@ fn a_pile_of_three_layers() -> Result<(), Fail> {
 }
 
 #[test]
+fn what_is_refused_below_comes_up_whole() -> Result<(), Fail> {
+    let mut book = Dated::over(Dated::over(ActivityBook::new()));
+    check_eq(
+        book.date(64, most(801, 1)),
+        answer(Layer::Dates, 64, Some(Refusal::NoSuchEvent)),
+    )?;
+    check_eq(
+        book.date(0, most(1, 1)),
+        answer(Layer::Dates, 0, Some(Refusal::NoSuchDatePlace)),
+    )?;
+    check_eq(
+        book.clear(64),
+        answer(Layer::Dates, 64, Some(Refusal::DatePlaceEmpty)),
+    )?;
+    check_eq(
+        book.enter(7, whole(10_000)),
+        answer(Layer::Book, 7, Some(Refusal::OutOfRange)),
+    )?;
+    check_eq(
+        book.alteration(7, whole(1)),
+        answer(Layer::Book, 7, Some(Refusal::LineEmpty)),
+    )?;
+    check_eq(book.enter(7, whole(1)), Ok(()))?;
+    check_eq(book.alteration(7, whole(2)), Ok(()))
+}
+
+#[test]
 fn owners_in_a_pile() -> Result<(), Fail> {
     let book = Dated::over(Dated::over(ActivityBook::new()));
     check_eq(

@@ -6,4 +6,6 @@ mod activities;
 mod arrows;
 pub mod cramped;
 #[cfg(test)]
+mod gaps;
+#[cfg(test)]
 mod layers;

@@ -1,26 +1,22 @@
 -- What stands on a date layer, and how a call on it is a call below or a change of its own. Assumes nothing.
-use mathlib.Core.Path.{_≡_, refl, sym, ap, subst, _∙_, fun-ext}
+use mathlib.Core.Path.{_≡_, refl, sym, ap, _∙_, fun-ext}
 use mathlib.Core.Bool.{Bool, true, false, cond, _&&_}
 use mathlib.Core.Logic.{_⊎_, inl, inr, ⊎-elim}
 use Prim.Native.Nat.{ℕ, _+_, _-_, _≤_, _<_}
 use native.Mathlib.Omega.{arith}
-use lib.Dec.{eqb, leb}
-use Rattle.std.proofs.shelf.Tests.{cases-lt, cases-eq, cond-true, cond-false, le-leb, lt-leb, eq-eqb, cases-bool, leb-true, leb-false}
-use Rattle.std.specs.Options.{isSome}
+use lib.Dec.{leb}
+use Rattle.std.proofs.shelf.Tests.{cases-lt, cases-eq, cond-true, cond-false, le-leb, lt-leb, eq-eqb}
 use Rattle.std.specs.declared.option.Option.{Option}
 use Rattle.std.specs.declared.option.Option.the-variants.{Some, None}
-use Rattle.network.specs.declared.gap.Gap.{Gap}
 use Rattle.network.specs.declared.gap.Owner.{Owner}
-use Rattle.network.specs.declared.gap.OwnerLayer.{OwnerLayer}
-use Rattle.network.specs.declared.gap.OwnerLayer.the-variants.{Book, Dates, Floor}
 use Rattle.network.specs.Meanings.{Outside}
 use Rattle.book.specs.declared.date.Date.{Date}
 use Rattle.book.specs.Refusals.{Told}
 use Rattle.book.specs.Rules.{BookMeaning, within, after, held, networkOf}
 use Rattle.book.specs.Layers.{added, asked, dateInRange, layerRule, layerGap}
-use Rattle.book.specs.Laws.{LawfulRule, LawfulBook, OwnsIn}
-use Rattle.book.specs.Calls.{Call, put, refusal, carriedOut, answered, hears, withDate, layer, date, clear, onDate, onClear}
-use Rattle.book.proofs.Layers.{layer-lawful, owner-below, owner-own, gap-below, gap-own}
+use Rattle.book.specs.Laws.{LawfulBook}
+use Rattle.book.specs.Calls.{Call, put, refusal, carriedOut, answered, hears, withDate, layer, date, clear}
+use Rattle.book.proofs.Layers.{layer-lawful, owner-own, gap-own}
 use Rattle.book.proofs.Ranges.{within-true, within-false}
 use Rattle.book.proofs.Puts.{put-same, put-other}
 use Rattle.dates.specs.Layered.{dateOver, layered}

@@ -1,5 +1,5 @@
 -- What a date layer means, by the book below it and its own dates. Assumes nothing.
-use mathlib.Core.Bool.{cond, _&&_}
+use mathlib.Core.Bool.{cond}
 use Prim.Native.Nat.{ℕ, _-_}
 use lib.Dec.{leb}
 use Rattle.std.specs.declared.option.Option.{Option}

@@ -1,6 +1,5 @@
 //! The network that a book of 400 lines is.
 
-ghost use mathlib.Core.Path.{_≡_};
 ghost use Rattle.book.specs.Rules.{networkOf};
 ghost use Rattle.line_book.specs.LineBooks.{bookOf};
 use crate::LineBook;

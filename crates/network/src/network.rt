@@ -11,8 +11,8 @@ pub trait Network {
     /// What the network tells: its events, its places, and at each place the gap and the owner.
     ghost network: { Self → Meaning };
 
-    /// At most 1,023 events and 4,096 places, gaps between its own events and of at most 99,999 days
-    /// either way, and nothing outside its places.
+    /// N is at most 1,023 and G at most 4,096; gaps go between events 0 to N and have at most 99,999 days
+    /// either way; and there is nothing outside places 1 to G.
     law lawful: { (n : Self) → Lawful (network n) };
 
     /// The number of the last event, N.

@@ -5,6 +5,10 @@ use crate::show::DateWords as _;
 use crate::show::GapWords as _;
 use crate::show::OwnerWords as _;
 use crate::show::Words;
+ghost use mathlib.Core.Path.{_≡_};
+ghost use Rattle.book.specs.Calls.{refusal, hears};
+ghost use Rattle.book.specs.Refusals.{told};
+ghost use Rattle.planner.specs.Heard.{heardAs};
 use book::date::Date;
 use book::refusal::Refused;
 use book::traits::Book;
@@ -23,7 +27,10 @@ pub enum Call<E> {
 }
 
 /// Makes one call on a book.
-fn carried_out<B: Book>(book: &mut B, call: Call<B::Entry>) -> Result<(), Refused> {
+fn carried_out<B: Book>(book: &mut B, call: Call<B::Entry>) -> Result<(), Refused>
+    ensures answer { λ r. ⌜ told r ≡ refusal (B·Book .meaning (now (book .entry))) (heardAs call) ⌝ }
+    ensures after { λ _. ⌜ B·Book .meaning (now (book .exit)) ≡ hears (B·Book .meaning (now (book .entry))) (heardAs call) ⌝ }
+{
     match call {
         Call::Enter(p, e) => book.enter(p, e),
         Call::Alter(p, e) => book.alter(p, e),

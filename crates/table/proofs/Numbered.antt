@@ -1,8 +1,8 @@
 -- Records numbered from 1, over the list of them. Assumes nothing.
 use mathlib.Core.Path.{_≡_, refl, sym, _∙_, fun-ext, ap}
-use mathlib.Core.List.{List, [], _∷_}
-use mathlib.Core.Logic.{_⊎_, inl, inr, ⊎-elim, _≢_}
-use Prim.Native.Nat.{ℕ, zero, suc, _+_, _-_, _≤_, _<_}
+use mathlib.Core.List.{List, _∷_}
+use mathlib.Core.Logic.{_⊎_, ⊎-elim, _≢_}
+use Prim.Native.Nat.{ℕ, zero, suc, _-_, _≤_, _<_}
 use native.Mathlib.Omega.{arith}
 use lib.ListN.{getD, set, replicate, length}
 use Rattle.std.proofs.shelf.Lists.{getD-past, length-replicate, getD-set-same, getD-set-other, getD-replicate}

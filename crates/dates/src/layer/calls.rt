@@ -4,7 +4,7 @@ ghost use mathlib.Core.Path.{_≡_};
 ghost use Prim.Native.Nat.{_-_, _<_, _≤_};
 ghost use Rattle.std.specs.declared.option.Option.the-variants.{None};
 ghost use Rattle.book.specs.declared.refusal.Layer.the-variants.{Dates};
-ghost use Rattle.book.specs.Calls.{onDate, onClear, by, answered, withDate};
+ghost use Rattle.book.specs.Calls.{onDate, onClear, by, answered, withDate, refusal, hears, date as dating, clear as clearing};
 ghost use Rattle.book.specs.Layers.{added};
 ghost use Rattle.book.specs.Refusals.{told};
 ghost use Rattle.table.specs.Standing.{standing};
@@ -49,6 +49,24 @@ impl<B: Book> Dated<B> {
             return Some(Refusal::DatePlaceEmpty);
         }
         None
+    }
+
+    /// A dating of a lower date place: it goes down, and the answer comes up whole.
+    fn date_below(&mut self, q: usize, d: Date) -> Result<(), Refused>
+        requires { ⌜ q ≤ B·Book .meaning (now self .below) .rule .dates ⌝ }
+        ensures answer { λ r. ⌜ told r ≡ refusal (layered (B·Book .meaning (now (self .entry) .below)) (standing (now (self .entry) .own))) (dating q d) ⌝ }
+        ensures after { λ _. ⌜ layered (B·Book .meaning (now (self .exit) .below)) (standing (now (self .exit) .own)) ≡ hears (layered (B·Book .meaning (now (self .entry) .below)) (standing (now (self .entry) .own))) (dating q d) ⌝ }
+    {
+        self.below.date(q, d)
+    }
+
+    /// A clearing of a lower date place: it goes down, and the answer comes up whole.
+    fn clear_below(&mut self, q: usize) -> Result<(), Refused>
+        requires { ⌜ q ≤ B·Book .meaning (now self .below) .rule .dates ⌝ }
+        ensures answer { λ r. ⌜ told r ≡ refusal (layered (B·Book .meaning (now (self .entry) .below)) (standing (now (self .entry) .own))) (clearing q) ⌝ }
+        ensures after { λ _. ⌜ layered (B·Book .meaning (now (self .exit) .below)) (standing (now (self .exit) .own)) ≡ hears (layered (B·Book .meaning (now (self .entry) .below)) (standing (now (self .entry) .own))) (clearing q) ⌝ }
+    {
+        self.below.clear(q)
     }
 
     /// Carries out what is not refused: `stands` goes onto one of the layer's own places.
@@ -124,7 +142,7 @@ pub impl<B: Book> Book for Dated<B> as DatedBook {
     fn date(&mut self, q: usize, d: Date) -> Result<(), Refused> {
         let below = self.below.dates();
         if q <= below {
-            return self.below.date(q, d);
+            return self.date_below(q, d);
         }
         let verdict = self.on_date(q, d);
         self.settle(q, verdict, Some(d))
@@ -133,7 +151,7 @@ pub impl<B: Book> Book for Dated<B> as DatedBook {
     fn clear(&mut self, q: usize) -> Result<(), Refused> {
         let below = self.below.dates();
         if q <= below {
-            return self.below.clear(q);
+            return self.clear_below(q);
         }
         let verdict = self.on_clear(q);
         self.settle(q, verdict, None)
