@@ -22,3 +22,10 @@ pub struct Owner {
     pub layer: OwnerLayer,
     pub number: usize,
 }
+
+/// One step of a ring: the place that holds the gap, or 0 where the step is the floor.
+#[derive(Clone, Copy, PartialEq, Eq, Debug)]
+pub struct Step {
+    pub place: usize,
+    pub gap: Gap,
+}

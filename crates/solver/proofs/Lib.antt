@@ -1,0 +1,11 @@
+pub mod Climbing
+pub mod Gathering
+pub mod Lowering
+pub mod Raising
+pub mod Settling
+pub mod Sounding
+pub mod Starting
+pub mod Sweeping
+pub mod Tallies
+pub mod Walking
+pub mod Zeros

@@ -1,0 +1,19 @@
+//! Sweeps until the times are at rest.
+
+ghost use Prim.Native.Nat.{_≤_};
+ghost use Rattle.network.specs.Schedules.{greatest};
+ghost use Rattle.solver.specs.Rising.{timeAt};
+ghost use Rattle.solver.specs.Falling.{Above, Fallen};
+use crate::arcs::Arcs;
+use crate::fall::Fall;
+
+impl Fall {
+    /// Lowers times until every arc is met.
+    pub(crate) fn settle(&mut self, arcs: &Arcs)
+        requires above { ⌜ Above (now arcs .arcs) (now arcs .count) (now arcs .events) (timeAt (now self .times)) ⌝ }
+        requires bound { ⌜ greatest (timeAt (now self .times)) (now arcs .events) ≤ 3000000000 ⌝ }
+        ensures { λ _. ⌜ Fallen (now (arcs .entry) .arcs) (now (arcs .entry) .count) (now (arcs .entry) .events) (now (self .entry) .times) (now (self .exit) .times) ⌝ }
+    {
+        while self.sweep(arcs) {}
+    }
+}
