@@ -13,7 +13,7 @@ use Rattle.std.specs.Orderings.{When}
 use Rattle.solver.specs.declared.arc.Arc.{Arc}
 use Rattle.solver.specs.Arcs.{MeetsArc, arcAt}
 use Rattle.solver.specs.Rising.{timeAt, LowArc}
-use Rattle.solver.specs.Falling.{Fell}
+use Rattle.solver.specs.Falling.{Sank, Fell}
 use Rattle.solver.proofs.Sweeping.{or-false}
 
 -- the times of events 0 to n, together
@@ -33,6 +33,53 @@ total-falls s t (suc n) falls e h less = ⊎-elim
     (λ (same : e ≡ suc n). let x = ap s same in let y = ap t same in let w = total-shrinks s t n (λ d k. falls d (omega arith)) in omega arith)
     (λ (other : e ≡ suc n → ⊥). let x = falls (suc n) (omega arith) in let w = total-falls s t n (λ d k. falls d (omega arith)) e (omega arith) less in omega arith)
     (cases-eq e (suc n))
+
+-- one arc, met or not
+module _ (arcs : List Arc) (count events : ℕ) (ls : List ℕ) (k : ℕ) (inside : k < count) (timed : length ls ≡ 1024) (small : events ≤ 1023)
+    (a : Arc) (is : arcAt arcs k ≡ a) (low : LowArc events a) where
+  module _ (unmet : timeAt ls (a .reached) + a .down < timeAt ls (a .left) + a .up) where
+    abbrev ls′ : List ℕ
+    ls′ = set ls (a .left) (timeAt ls (a .reached) + a .down - a .up)
+
+    pub lowered : timeAt ls′ (a .left) ≡ timeAt ls (a .reached) + a .down - a .up
+    lowered = getD-set-same ls (a .left) _ 0 (omega (arith, low .0))
+
+    others : (e : ℕ) → (e ≡ a .left → ⊥) → timeAt ls′ e ≡ timeAt ls e
+    others e n = let ne : e ≢ a .left = n in getD-set-other ls (a .left) e _ 0 ne
+
+    pub sank-lowered : Sank arcs count events ls ls′
+    sank-lowered = record {
+      most = λ s keeps below e h. ⊎-elim
+          (λ (same : e ≡ a .left).
+          let under = below (a .reached) (low .1 .0) in
+          let met = subst (λ x. s (x .left) + x .up ≤ s (x .reached) + x .down) is (keeps k inside) in
+          let x = ap s same in let y = ap (timeAt ls′) same in omega (arith, lowered))
+          (λ (other : e ≡ a .left → ⊥). let x = others e other in let y = below e h in omega arith)
+          (cases-eq e (a .left));
+      falls = λ e. ⊎-elim
+          (λ (same : e ≡ a .left). let x = ap (timeAt ls) same in let y = ap (timeAt ls′) same in omega (arith, lowered))
+          (λ (other : e ≡ a .left → ⊥). let x = others e other in omega arith)
+          (cases-eq e (a .left));
+    }
+
+  sank-not : Sank arcs count events ls ls
+  sank-not = record { most = λ s keeps below. below; falls = λ e. omega arith }
+
+  pub sank-one : (r : Bool) (next : List ℕ) → r ≡ ltb (timeAt ls (a .reached) + a .down) (timeAt ls (a .left) + a .up)
+      → next ≡ cond r (set ls (a .left) (timeAt ls (a .reached) + a .down - a .up)) ls → Sank arcs count events ls next
+  sank-one true next e f = subst (Sank arcs count events ls) (sym f) (sank-lowered (ltb-true (timeAt ls (a .reached) + a .down) (timeAt ls (a .left) + a .up) (sym e)))
+  sank-one false next e f = subst (Sank arcs count events ls) (sym f) sank-not
+
+module _ (arcs : List Arc) (count events : ℕ) where
+  pub sank-none : (ls : List ℕ) → Sank arcs count events ls ls
+  sank-none ls = record { most = λ s keeps below. below; falls = λ e. omega arith }
+
+  -- lowering after lowering
+  pub sank-join : (ls ms ns : List ℕ) → Sank arcs count events ls ms → Sank arcs count events ms ns → Sank arcs count events ls ns
+  sank-join ls ms ns f g = record {
+    most = λ s keeps below. g .most s keeps (f .most s keeps below);
+    falls = λ e. let x = f .falls e in let y = g .falls e in omega arith;
+  }
 
 module _ (arcs : List Arc) (count events : ℕ) (ls₀ : List ℕ) where
   pub fell-none : Fell arcs count events ls₀ ls₀ 0 false
@@ -60,34 +107,15 @@ module _ (arcs : List Arc) (count events : ℕ) (ls₀ : List ℕ) where
     fell-met : (timeAt ls (a .left) + a .up ≤ timeAt ls (a .reached) + a .down) → Fell arcs count events ls₀ ls (k + 1) changed
     fell-met met = record { most = so .most; falls = so .falls; told = told-more met changed (so .told) }
 
-    module _ (unmet : timeAt ls (a .reached) + a .down < timeAt ls (a .left) + a .up) where
-      abbrev ls′ : List ℕ
-      ls′ = set ls (a .left) (timeAt ls (a .reached) + a .down - a .up)
-
-      lowered : timeAt ls′ (a .left) ≡ timeAt ls (a .reached) + a .down - a .up
-      lowered = getD-set-same ls (a .left) _ 0 (omega (arith, low .0))
-
-      others : (e : ℕ) → (e ≡ a .left → ⊥) → timeAt ls′ e ≡ timeAt ls e
-      others e n = let ne : e ≢ a .left = n in getD-set-other ls (a .left) e _ 0 ne
-
-      falls′ : (e : ℕ) → timeAt ls′ e ≤ timeAt ls e
-      falls′ e = ⊎-elim
-          (λ (same : e ≡ a .left). let x = ap (timeAt ls) same in let y = ap (timeAt ls′) same in omega (arith, lowered))
-          (λ (other : e ≡ a .left → ⊥). let x = others e other in omega arith)
-          (cases-eq e (a .left))
-
-      fell-lowered : Fell arcs count events ls₀ ls′ (k + 1) true
-      fell-lowered = record {
-        most = λ s keeps below e h. ⊎-elim
-            (λ (same : e ≡ a .left).
-            let under = so .most s keeps below (a .reached) (low .1 .0) in
-            let met = subst (λ x. s (x .left) + x .up ≤ s (x .reached) + x .down) is (keeps k inside) in
-            let x = ap s same in let y = ap (timeAt ls′) same in omega (arith, lowered))
-            (λ (other : e ≡ a .left → ⊥). let x = others e other in let y = so .most s keeps below e h in omega arith)
-            (cases-eq e (a .left));
-        falls = λ e. let x = so .falls e in let y = falls′ e in omega arith;
-        told = (a .left, low .0, (let x = so .falls (a .left) in omega (arith, lowered)));
-      }
+    fell-lowered : timeAt ls (a .reached) + a .down < timeAt ls (a .left) + a .up → Fell arcs count events ls₀ (set ls (a .left) (timeAt ls (a .reached) + a .down - a .up)) (k + 1) true
+    fell-lowered unmet =
+        let one = sank-lowered arcs count events ls k inside timed small a is low unmet in
+        let down = lowered arcs count events ls k inside timed small a is low unmet in
+        record {
+          most = λ s keeps below. one .most s keeps (so .most s keeps below);
+          falls = λ e. let x = so .falls e in let y = one .falls e in omega arith;
+          told = (a .left, low .0, (let x = so .falls (a .left) in omega arith));
+        }
 
     -- one arc more, met or not
     pub fell-next : (r : Bool) (next : List ℕ) → r ≡ ltb (timeAt ls (a .reached) + a .down) (timeAt ls (a .left) + a .up)

@@ -14,12 +14,72 @@ use Rattle.network.specs.Schedules.{greatest}
 use Rattle.network.proofs.Lengths.{greatest-bounds, greatest-least}
 use Rattle.solver.specs.declared.arc.Arc.{Arc}
 use Rattle.solver.specs.Arcs.{MeetsArc, arcAt}
-use Rattle.solver.specs.Rising.{timeAt, LowArc, Swept}
+use Rattle.solver.specs.Rising.{timeAt, LowArc, Moved, Swept}
 use Rattle.solver.proofs.Raising.{raise-keeps}
 
 pub or-false : (b : Bool) → (b || false) ≡ b
 or-false true = refl
 or-false false = refl
+
+-- one arc, met or not
+module _ (arcs : List Arc) (count events : ℕ) (ts ps : List ℕ) (k : ℕ)
+    (inside : k < count) (timed : length ts ≡ 1024) (tied : length ps ≡ 1024) (small : events ≤ 1023)
+    (a : Arc) (is : arcAt arcs k ≡ a) (low : LowArc events a) where
+  module _ (unmet : timeAt ts (a .reached) + a .down < timeAt ts (a .left) + a .up) where
+    abbrev ts′ : List ℕ
+    ts′ = set ts (a .reached) (timeAt ts (a .left) + a .up - a .down)
+
+    abbrev ps′ : List ℕ
+    ps′ = set ps (a .reached) (k + 1)
+
+    pub raised : timeAt ts′ (a .reached) ≡ timeAt ts (a .left) + a .up - a .down
+    raised = getD-set-same ts (a .reached) _ 0 (omega (arith, low .1 .0))
+
+    others : (e : ℕ) → (e ≡ a .reached → ⊥) → timeAt ts′ e ≡ timeAt ts e
+    others e n = let ne : e ≢ a .reached = n in getD-set-other ts (a .reached) e _ 0 ne
+
+    by : timeAt ps′ (a .reached) ≡ k + 1
+    by = getD-set-same ps (a .reached) _ 0 (omega (arith, low .1 .0))
+
+    kept : (e : ℕ) → (e ≡ a .reached → ⊥) → timeAt ps′ e ≡ timeAt ps e
+    kept e n = let ne : e ≢ a .reached = n in getD-set-other ps (a .reached) e _ 0 ne
+
+    pub moved-raised : Moved arcs count events ts ps ts′ ps′ 1
+    moved-raised = record {
+      rising = λ start was. raise-keeps arcs count events start (timeAt ts) (timeAt ps) was k inside a is low unmet (timeAt ts′) (timeAt ps′) raised others by kept;
+      grows = λ e. ⊎-elim
+          (λ (same : e ≡ a .reached). let y = ap (timeAt ts) same in let z = ap (timeAt ts′) same in omega (arith, raised))
+          (λ (other : e ≡ a .reached → ⊥). let y = others e other in omega arith)
+          (cases-eq e (a .reached));
+      bound = greatest-least (timeAt ts′) events (greatest (timeAt ts) events + 99999 * 1) (λ e h. ⊎-elim
+          (λ (same : e ≡ a .reached). let x = greatest-bounds (timeAt ts) events (a .left) (low .0) in let z = ap (timeAt ts′) same in omega (arith, raised, low .1 .1 .0))
+          (λ (other : e ≡ a .reached → ⊥). let x = greatest-bounds (timeAt ts) events e h in let y = others e other in omega arith)
+          (cases-eq e (a .reached)));
+    }
+
+  moved-not : Moved arcs count events ts ps ts ps 1
+  moved-not = record { rising = λ start was. was; grows = λ e. omega arith; bound = omega arith }
+
+  pub moved-one : (r : Bool) (us qs : List ℕ) → r ≡ ltb (timeAt ts (a .reached) + a .down) (timeAt ts (a .left) + a .up)
+      → us ≡ cond r (set ts (a .reached) (timeAt ts (a .left) + a .up - a .down)) ts
+      → qs ≡ cond r (set ps (a .reached) (k + 1)) ps
+      → Moved arcs count events ts ps us qs 1
+  moved-one true us qs e f g =
+      let unmet = ltb-true (timeAt ts (a .reached) + a .down) (timeAt ts (a .left) + a .up) (sym e) in
+      subst (λ x. Moved arcs count events ts ps x qs 1) (sym f) (subst (λ y. Moved arcs count events ts ps (set ts (a .reached) (timeAt ts (a .left) + a .up - a .down)) y 1) (sym g) (moved-raised unmet))
+  moved-one false us qs e f g = subst (λ x. Moved arcs count events ts ps x qs 1) (sym f) (subst (λ y. Moved arcs count events ts ps ts y 1) (sym g) moved-not)
+
+module _ (arcs : List Arc) (count events : ℕ) where
+  pub moved-none : (ts ps : List ℕ) → Moved arcs count events ts ps ts ps 0
+  moved-none ts ps = record { rising = λ start was. was; grows = λ e. omega arith; bound = omega arith }
+
+  -- move after move
+  pub moved-join : (ts ps us qs vs rs : List ℕ) (i j : ℕ) → Moved arcs count events ts ps us qs i → Moved arcs count events us qs vs rs j → Moved arcs count events ts ps vs rs (i + j)
+  moved-join ts ps us qs vs rs i j f g = record {
+    rising = λ start was. g .rising start (f .rising start was);
+    grows = λ e. let x = f .grows e in let y = g .grows e in omega arith;
+    bound = omega (arith, f .bound, g .bound);
+  }
 
 module _ (arcs : List Arc) (count events : ℕ) (ts₀ ps₀ : List ℕ) where
   pub swept-none : Swept arcs count events ts₀ ps₀ ts₀ ps₀ 0 false
@@ -54,35 +114,16 @@ module _ (arcs : List Arc) (count events : ℕ) (ts₀ ps₀ : List ℕ) where
         told-more false w = (w .0, w .1, met-more (w .0) (w .2))
 
     -- the arc is not met: the event that it reaches is raised
-    module _ (unmet : timeAt ts (a .reached) + a .down < timeAt ts (a .left) + a .up) where
-      v : ℕ
-      v = timeAt ts (a .left) + a .up - a .down
-
-      raised : timeAt (set ts (a .reached) (timeAt ts (a .left) + a .up - a .down)) (a .reached) ≡ timeAt ts (a .left) + a .up - a .down
-      raised = getD-set-same ts (a .reached) _ 0 (omega (arith, low .1 .0))
-
-      others : (e : ℕ) → (e ≡ a .reached → ⊥) → timeAt (set ts (a .reached) (timeAt ts (a .left) + a .up - a .down)) e ≡ timeAt ts e
-      others e n = let ne : e ≢ a .reached = n in getD-set-other ts (a .reached) e _ 0 ne
-
-      by : timeAt (set ps (a .reached) (k + 1)) (a .reached) ≡ k + 1
-      by = getD-set-same ps (a .reached) _ 0 (omega (arith, low .1 .0))
-
-      kept : (e : ℕ) → (e ≡ a .reached → ⊥) → timeAt (set ps (a .reached) (k + 1)) e ≡ timeAt ps e
-      kept e n = let ne : e ≢ a .reached = n in getD-set-other ps (a .reached) e _ 0 ne
-
-      pub swept-raised : Swept arcs count events ts₀ ps₀ (set ts (a .reached) (timeAt ts (a .left) + a .up - a .down)) (set ps (a .reached) (k + 1)) (k + 1) true
-      swept-raised = record {
-        rising = λ start was. raise-keeps arcs count events start (timeAt ts) (timeAt ps) (so .rising start was) k inside a is low unmet (timeAt (set ts (a .reached) (timeAt ts (a .left) + a .up - a .down))) (timeAt (set ps (a .reached) (k + 1))) raised others by kept;
-        grows = λ e. ⊎-elim
-            (λ (same : e ≡ a .reached). let x = so .grows e in let y = ap (timeAt ts) same in let z = ap (timeAt (set ts (a .reached) (timeAt ts (a .left) + a .up - a .down))) same in omega (arith, raised))
-            (λ (other : e ≡ a .reached → ⊥). let x = so .grows e in let y = others e other in omega arith)
-            (cases-eq e (a .reached));
-        bound = greatest-least (timeAt (set ts (a .reached) (timeAt ts (a .left) + a .up - a .down))) events (greatest (timeAt ts₀) events + 99999 * (k + 1)) (λ e h. ⊎-elim
-            (λ (same : e ≡ a .reached). let x = greatest-bounds (timeAt ts) events (a .left) (low .0) in let z = ap (timeAt (set ts (a .reached) (timeAt ts (a .left) + a .up - a .down))) same in omega (arith, raised, so .bound, low .1 .1 .0))
-            (λ (other : e ≡ a .reached → ⊥). let x = greatest-bounds (timeAt ts) events e h in let y = others e other in omega (arith, so .bound))
-            (cases-eq e (a .reached)));
-        told = (a .reached, low .1 .0, (let x = so .grows (a .reached) in omega (arith, raised)));
-      }
+    swept-raised : timeAt ts (a .reached) + a .down < timeAt ts (a .left) + a .up → Swept arcs count events ts₀ ps₀ (set ts (a .reached) (timeAt ts (a .left) + a .up - a .down)) (set ps (a .reached) (k + 1)) (k + 1) true
+    swept-raised unmet =
+        let one = moved-raised arcs count events ts ps k inside timed tied small a is low unmet in
+        let up = raised arcs count events ts ps k inside timed tied small a is low unmet in
+        record {
+          rising = λ start was. one .rising start (so .rising start was);
+          grows = λ e. let x = so .grows e in let y = one .grows e in omega arith;
+          bound = omega (arith, so .bound, one .bound);
+          told = (a .reached, low .1 .0, (let x = so .grows (a .reached) in omega arith));
+        }
 
     -- one arc more, met or not
     pub swept-next : (r : Bool) (ts′ ps′ : List ℕ) → r ≡ ltb (timeAt ts (a .reached) + a .down) (timeAt ts (a .left) + a .up)

@@ -1,7 +1,7 @@
 -- Times that fall until every arc is met. Assumes nothing.
 --     Most ..         a table that keeps the arcs and was nowhere later is nowhere later still
 --     Above ..        some table that keeps the arcs is nowhere later
---     Fell ..         what a sweep does, and Fallen what all of them do
+--     Sank ..         what any lowering does, Fell what a sweep does, and Fallen what all of them do
 use mathlib.Core.Path.{_≡_}
 use mathlib.Core.Bool.{Bool}
 use mathlib.Core.List.{List}
@@ -19,6 +19,10 @@ module _ (arcs : List Arc) (count events : ℕ) where
     pub table : ℕ → ℕ
     pub keeps : Keeps arcs count events table
     pub below : (e : ℕ) → e ≤ events → table e ≤ l e
+
+  pub record Sank (ls ls′ : List ℕ) : Type 0 where
+    pub most : Most (timeAt ls) (timeAt ls′)
+    pub falls : (e : ℕ) → timeAt ls′ e ≤ timeAt ls e
 
   pub record Fell (ls ls′ : List ℕ) (n : ℕ) (changed : Bool) : Type 0 where
     pub most : Most (timeAt ls) (timeAt ls′)

@@ -48,6 +48,12 @@ module _ (arcs : List Arc) (count events : ℕ) where
     pub order : ℕ → ℕ
     pub held : (e : ℕ) → e ≤ events → Held order start t par e
 
+  -- the tables ts and ps have become ts′ and ps′ by at most n raises
+  pub record Moved (ts ps ts′ ps′ : List ℕ) (n : ℕ) : Type 0 where
+    pub rising : (start : ℕ → ℕ) → Rising start (timeAt ts) (timeAt ps) → Rising start (timeAt ts′) (timeAt ps′)
+    pub grows : (e : ℕ) → timeAt ts e ≤ timeAt ts′ e
+    pub bound : greatest (timeAt ts′) events ≤ greatest (timeAt ts) events + 99999 * n
+
   -- the tables ts and ps have become ts′ and ps′ by the first n arcs, raised or not
   pub record Swept (ts ps ts′ ps′ : List ℕ) (n : ℕ) (changed : Bool) : Type 0 where
     pub rising : (start : ℕ → ℕ) → Rising start (timeAt ts) (timeAt ps) → Rising start (timeAt ts′) (timeAt ps′)

@@ -3,6 +3,7 @@
 mod arc;
 mod arcs;
 mod fall;
+mod order;
 pub mod ring;
 mod rise;
 pub mod solution;

@@ -5,6 +5,7 @@ ghost use Prim.Native.Nat.{ℕ};
 ghost use Rattle.solver.specs.Rising.{timeAt};
 ghost use Rattle.solver.specs.Solutions.{Solved};
 use crate::arcs::gathered;
+use crate::order::followed;
 use crate::rise::Rise;
 use crate::rise::Settled;
 use crate::solution::Solution;
@@ -28,8 +29,9 @@ pub fn solve<N: Network>(network: &N) -> Solution
 {
     let arcs = gathered(network);
     let mut rise = unraised();
-    match rise.settle(&arcs) {
-        Settled::Rest => Solution::Sound(windows_of(&arcs, &rise)),
+    let order = followed(&arcs);
+    match rise.settle(&arcs, &order) {
+        Settled::Rest => Solution::Sound(windows_of(&arcs, &order, &rise)),
         Settled::Lifted => Solution::Contradictory(rise.ring_from(&arcs, 0)),
         Settled::Ring(r) => Solution::Contradictory(rise.ring_from(&arcs, r)),
     }

@@ -179,3 +179,37 @@ fn contradictions() -> Result<(), Fail> {
     )?;
     check_eq(late.step(4), None)
 }
+
+/// A chain of 200 activities of 9,999 days, each 9,999 days after the one before; relations in order or in reverse.
+fn chain(reversed: bool) -> ActivityBook {
+    let mut book = ActivityBook::new();
+    for before in 0..200 {
+        let _ = book.enter(
+            before + 1,
+            Entry::Activity(Activity {
+                work: Work::Days(9_999),
+                running: Running::Whole,
+            }),
+        );
+    }
+    for before in 0..199 {
+        let first = if reversed { 199 - before } else { before + 1 };
+        let _ = book.enter(
+            before + 201,
+            relation(Kind::FS, Bound::Least, first, first + 1, 9_999),
+        );
+    }
+    book
+}
+
+#[test]
+fn the_longest_chains() -> Result<(), Fail> {
+    let windows = [
+        (1, 0, 0),
+        (2, 9_999, 9_999),
+        (399, 3_979_602, 3_979_602),
+        (400, 3_989_601, 3_989_601),
+    ];
+    check_windows(&solve(&chain(false)), 3_989_601, &windows)?;
+    check_windows(&solve(&chain(true)), 3_989_601, &windows)
+}

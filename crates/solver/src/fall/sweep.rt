@@ -7,10 +7,11 @@ ghost use lib.Dec.{ltb};
 ghost use lib.ListN.{set};
 ghost use Rattle.network.specs.Schedules.{greatest};
 ghost use Rattle.solver.specs.Rising.{timeAt};
-ghost use Rattle.solver.specs.Falling.{Above, Fell};
+ghost use Rattle.solver.specs.Falling.{Above, Sank, Fell};
 use crate::arc::Arc;
 use crate::arcs::Arcs;
 use crate::fall::Fall;
+use crate::order::Order;
 
 impl Fall {
     /// Lowers the event that an arc leaves, where the arc is not met.
@@ -29,6 +30,18 @@ impl Fall {
             return true;
         }
         false
+    }
+
+    /// Goes over the arcs against a hinted order.
+    pub(crate) fn pull(&mut self, arcs: &Arcs, order: &Order)
+        requires above { ⌜ Above (now arcs .arcs) (now arcs .count) (now arcs .events) (timeAt (now self .times)) ⌝ }
+        requires bound { ⌜ greatest (timeAt (now self .times)) (now arcs .events) ≤ 3000000000 ⌝ }
+        ensures { λ _. ⌜ Sank (now (arcs .entry) .arcs) (now (arcs .entry) .count) (now (arcs .entry) .events) (now (self .entry) .times) (now (self .exit) .times) ⌝ }
+    {
+        for i in 0..arcs.count {
+            let k = order.indices[arcs.count - 1 - i].min(arcs.count - 1);
+            let _ = self.lower(arcs.arcs[k]);
+        }
     }
 
     /// Goes over every arc once, and says whether it lowered an event.

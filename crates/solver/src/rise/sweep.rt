@@ -6,9 +6,10 @@ ghost use Prim.Native.Nat.{_+_, _-_, _^_, _≤_, _<_};
 ghost use lib.Dec.{ltb};
 ghost use lib.ListN.{set};
 ghost use Rattle.network.specs.Schedules.{greatest};
-ghost use Rattle.solver.specs.Rising.{timeAt, Swept};
+ghost use Rattle.solver.specs.Rising.{timeAt, Moved, Swept};
 use crate::arc::Arc;
 use crate::arcs::Arcs;
+use crate::order::Order;
 use crate::rise::Rise;
 
 impl Rise {
@@ -30,6 +31,17 @@ impl Rise {
             return true;
         }
         false
+    }
+
+    /// Goes over the arcs in a hinted order.
+    pub(crate) fn push(&mut self, arcs: &Arcs, order: &Order)
+        requires { ⌜ greatest (timeAt (now self .times)) (now arcs .events) ≤ 3000000000 ⌝ }
+        ensures { λ _. ⌜ Moved (now (arcs .entry) .arcs) (now (arcs .entry) .count) (now (arcs .entry) .events) (now (self .entry) .times) (now (self .entry) .parents) (now (self .exit) .times) (now (self .exit) .parents) (now (arcs .entry) .count) ⌝ }
+    {
+        for i in 0..arcs.count {
+            let k = order.indices[i].min(arcs.count - 1);
+            let _ = self.raise(k, arcs.arcs[k]);
+        }
     }
 
     /// Goes over every arc once, and says whether it raised an event.

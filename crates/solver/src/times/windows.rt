@@ -9,6 +9,7 @@ ghost use Rattle.solver.specs.Arcs.{Gathered};
 ghost use Rattle.solver.specs.Rising.{timeAt, Keeps, Rising};
 use crate::arcs::Arcs;
 use crate::fall::Fall;
+use crate::order::Order;
 use crate::rise::Rise;
 use crate::times::Times;
 
@@ -36,7 +37,7 @@ fn due(length: u32) -> [u32; 1024]
 }
 
 /// The windows of the events, from earliest times at rest.
-pub(crate) fn windows(arcs: &Arcs, rise: &Rise) -> Times
+pub(crate) fn windows(arcs: &Arcs, order: &Order, rise: &Rise) -> Times
     requires rising { ⌜ Rising (now arcs .arcs) (now arcs .count) (now arcs .events) (λ _. 0) (timeAt (now rise .times)) (timeAt (now rise .parents)) ⌝ }
     requires first { ⌜ timeAt (now rise .times) 0 ≡ 0 ⌝ }
     requires bound { ⌜ greatest (timeAt (now rise .times)) (now arcs .events) ≤ 204800000 ⌝ }
@@ -47,7 +48,7 @@ pub(crate) fn windows(arcs: &Arcs, rise: &Rise) -> Times
     let earliest = rise.times;
     let length = longest(&earliest, arcs.events);
     let mut fall = Fall { times: due(length) };
-    fall.settle(arcs);
+    fall.settle(arcs, order);
     let latest = fall.times;
     Times {
         events: arcs.events,

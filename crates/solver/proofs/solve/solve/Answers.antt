@@ -10,7 +10,6 @@ settle-requires g c κs =
     let rise = c .unraised-rise in
     record {
       risen = risen-none (arcs .arcs) (arcs .count) (arcs .events) (rise .result .times) (rise .result .parents) (rise .ensures .times) (rise .ensures .parents);
-      first = rise .ensures .times 0;
       bound = none-late (arcs .arcs) (arcs .count) (arcs .events) (rise .result .times) (rise .result .parents) (rise .ensures .times) (rise .ensures .parents);
     }
 

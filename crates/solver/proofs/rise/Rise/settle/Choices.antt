@@ -1,4 +1,3 @@
-use mathlib.Core.Path.{_≡_}
 use Prim.Native.Nat.{_≤_}
 use Rattle.network.specs.Schedules.{greatest}
 use Rattle.solver.specs.Rising.{timeAt}
@@ -6,10 +5,11 @@ use Rattle.solver.specs.Outcomes.{Carries}
 use Rattle.solver.proofs.Settling.{slack}
 use Rattle.solver.proofs.rise.Rise.settle.Given as given
 
-abbrev pub Inv-loop-self : given.InvT-loop-self
-Inv-loop-self l =
+abbrev pub Inv-loop-r : given.InvT-loop-r
+Inv-loop-r l =
     Carries (l .arcs .arcs) (l .arcs .count) (l .arcs .events) (l .entry .self .times) (l .entry .self .parents) (l .self .times) (l .self .parents)
-    × ((timeAt (l .self .times) 0 ≡ 0) × (greatest (timeAt (l .self .times)) (l .arcs .events) ≤ 204800000))
+    × (greatest (timeAt (l .self .times)) (l .arcs .events) ≤ 204800000)
 
-abbrev pub μ-loop-self : given.MeasureT-loop-self
-μ-loop-self l = slack 204800000 (timeAt (l .self .times)) (l .arcs .events)
+-- how far the times can still rise
+abbrev pub μ-loop-r : given.MeasureT-loop-r
+μ-loop-r l = slack 204800000 (timeAt (l .self .times)) (l .arcs .events)
