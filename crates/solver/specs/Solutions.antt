@@ -17,6 +17,12 @@ earliestOf ts = timeAt (ts .earliest)
 abbrev pub latestOf : Times → ℕ → ℕ
 latestOf ts = timeAt (ts .latest)
 
+-- every time is 0
+pub record Noughts (ts : Times) : Type 0 where
+  pub earliest : (e : ℕ) → earliestOf ts e ≡ 0
+  pub latest : (e : ℕ) → latestOf ts e ≡ 0
+  pub length : ts .length ≡ 0
+
 pub record Windows (m : Meaning) (ts : Times) : Type 0 where
   pub events : ts .events ≡ m .events
   pub sound : schedules.Sound m (earliestOf ts) (latestOf ts) (ts .length)
