@@ -1,5 +1,7 @@
 //! The activity book: activities, whole or broken, and relations between their starts and finishes.
 
+#![tactic(auto)]
+
 use crate::lines::ActivityLines;
 use line_book::LineBook;
 

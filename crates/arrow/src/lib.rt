@@ -1,5 +1,7 @@
 //! The arrow book: activities drawn as arrows between nodes, and the nodes as events.
 
+#![tactic(auto)]
+
 use crate::lines::ArrowLines;
 use line_book::LineBook;
 

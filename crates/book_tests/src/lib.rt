@@ -1,5 +1,7 @@
 //! Tests of the books and of date layers over them, at their edges.
 
+#![tactic(auto)]
+
 #[cfg(test)]
 mod activities;
 #[cfg(test)]

@@ -1,5 +1,7 @@
 //! Forms: the lines of text in which a plan is entered, read byte by byte.
 
+#![tactic(auto)]
+
 mod date;
 pub mod form;
 mod item;

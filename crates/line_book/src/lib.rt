@@ -1,5 +1,7 @@
 //! The book of 400 lines, written once for every kind of lines.
 
+#![tactic(auto)]
+
 use crate::lines::Lines;
 
 mod calls;

@@ -1,5 +1,7 @@
 //! Solves networks that no book makes, and prints what comes of each.
 
+#![tactic(auto)]
+
 use std::io;
 
 mod gaps;

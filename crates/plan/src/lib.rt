@@ -1,5 +1,7 @@
 //! Plans over any book: open, to be entered and dated, and issued, to be read.
 
+#![tactic(auto)]
+
 pub mod issued;
 pub mod open;
 mod verdict;

@@ -1,5 +1,7 @@
 //! Plays lists of calls, and prints what the issued plans tell: the length and the windows, or the ring.
 
+#![tactic(auto)]
+
 use std::io;
 
 mod activities;

@@ -1,6 +1,8 @@
 //! The sheet of an issued plan: for each standing activity or arrow its windows, its total floats and its free float;
 //! or the ring of a plan that no schedule meets.
 
+#![tactic(auto)]
+
 mod gaps;
 mod room;
 mod row;

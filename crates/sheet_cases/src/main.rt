@@ -1,5 +1,7 @@
 //! Sheets at their edges, into buffers of every length.
 
+#![tactic(auto)]
+
 use std::io;
 
 mod buffers;

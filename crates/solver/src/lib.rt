@@ -1,5 +1,7 @@
 //! The earliest and latest times of any network, or a ring that shows that it has no schedule.
 
+#![tactic(auto)]
+
 mod arc;
 mod arcs;
 mod fall;

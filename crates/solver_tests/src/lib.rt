@@ -1,5 +1,7 @@
 //! Tests of the solver on plans whose times are known.
 
+#![tactic(auto)]
+
 #[cfg(test)]
 mod activities;
 #[cfg(test)]

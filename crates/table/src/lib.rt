@@ -1,5 +1,7 @@
 //! The table that lines and date places rest on: one record for each number from 1 on.
 
+#![tactic(auto)]
+
 ghost use Rattle.std.specs.Prelude.{◌≡◌, length};
 
 mod records;

@@ -1,6 +1,8 @@
 //! Answers a table of texts from standard input, and says which answers are as the table has them; then every damage of
 //! one byte of a good text, and texts as long as they can be.
 
+#![tactic(auto)]
+
 use std::io;
 use std::io::Read;
 

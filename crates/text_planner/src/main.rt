@@ -1,6 +1,8 @@
 //! Reads the forms of a plan from standard input, and writes its sheet, or the line that says why the text is refused, to
 //! standard output. A failing read or write is reported on standard error.
 
+#![tactic(auto)]
+
 use gezwaphimo::answer::answer;
 use std::io;
 use std::io::{Read, Write};
