@@ -2,21 +2,21 @@ use Rattle.std.proofs.Common.{rules}
 use Rattle.forms.specs.Parts.{date_at}
 use Rattle.forms.proofs.date.date.Goals as goal
 
-pub returns-in-err-at : goal.returns-in-err-at
+pub returns-in_err-at : goal.returns-in_err-at
 unfolding date_at
-returns-in-err-at c = search rules
+returns-in_err-at c = search rules
 
-pub returns-in-err-point : goal.returns-in-err-point
+pub returns-in_err-point : goal.returns-in_err-point
 unfolding date_at
-returns-in-err-point c = search rules
+returns-in_err-point c = search rules
 
-pub returns-in-err-bound : goal.returns-in-err-bound
+pub returns-in_err-bound : goal.returns-in_err-bound
 unfolding date_at
-returns-in-err-bound c = search rules
+returns-in_err-bound c = search rules
 
-pub returns-in-err-day : goal.returns-in-err-day
+pub returns-in_err-day : goal.returns-in_err-day
 unfolding date_at
-returns-in-err-day c = search rules
+returns-in_err-day c = search rules
 
 pub returns : goal.returns
 unfolding date_at

@@ -2,17 +2,17 @@ use Rattle.std.proofs.Common.{rules}
 use Rattle.forms.specs.Parts.{arrow_at}
 use Rattle.forms.proofs.item.arrow.Goals as goal
 
-pub returns-in-err-from : goal.returns-in-err-from
+pub returns-in_err-from : goal.returns-in_err-from
 unfolding arrow_at
-returns-in-err-from c = search rules
+returns-in_err-from c = search rules
 
-pub returns-in-err-to : goal.returns-in-err-to
+pub returns-in_err-to : goal.returns-in_err-to
 unfolding arrow_at
-returns-in-err-to c = search rules
+returns-in_err-to c = search rules
 
-pub returns-in-err-days : goal.returns-in-err-days
+pub returns-in_err-days : goal.returns-in_err-days
 unfolding arrow_at
-returns-in-err-days c = search rules
+returns-in_err-days c = search rules
 
 pub returns : goal.returns
 unfolding arrow_at

@@ -2,13 +2,13 @@ use Rattle.std.proofs.Common.{rules}
 use Rattle.forms.specs.Parts.{item_at}
 use Rattle.forms.proofs.item.item.Goals as goal
 
-pub returns-in-err-at : goal.returns-in-err-at
+pub returns-in_err-at : goal.returns-in_err-at
 unfolding item_at
-returns-in-err-at c = search rules
+returns-in_err-at c = search rules
 
-pub returns-in-err-kind : goal.returns-in-err-kind
+pub returns-in_err-kind : goal.returns-in_err-kind
 unfolding item_at
-returns-in-err-kind c = search rules
+returns-in_err-kind c = search rules
 
 pub returns : goal.returns
 unfolding item_at

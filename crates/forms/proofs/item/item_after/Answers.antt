@@ -2,34 +2,34 @@ use Rattle.std.proofs.Common.{rules}
 use Rattle.forms.specs.Parts.{item_after}
 use Rattle.forms.proofs.item.item_after.Goals as goal
 
-pub returns-in-err-days : goal.returns-in-err-days
+pub returns-in_err-days : goal.returns-in_err-days
 unfolding item_after
-returns-in-err-days c = search rules
+returns-in_err-days c = search rules
 
-pub returns-in-err-hours : goal.returns-in-err-hours
+pub returns-in_err-hours : goal.returns-in_err-hours
 unfolding item_after
-returns-in-err-hours c = search rules
+returns-in_err-hours c = search rules
 
-pub returns-in-err-relation : goal.returns-in-err-relation
+pub returns-in_err-relation : goal.returns-in_err-relation
 unfolding item_after
-returns-in-err-relation c = search rules
+returns-in_err-relation c = search rules
 
-pub returns-in-err-arrow : goal.returns-in-err-arrow
+pub returns-in_err-arrow : goal.returns-in_err-arrow
 unfolding item_after
-returns-in-err-arrow c = search rules
+returns-in_err-arrow c = search rules
 
-pub returns-in-ok-days : goal.returns-in-ok-days
+pub returns-in_ok-days : goal.returns-in_ok-days
 unfolding item_after
-returns-in-ok-days c = search rules
+returns-in_ok-days c = search rules
 
-pub returns-in-ok-hours : goal.returns-in-ok-hours
+pub returns-in_ok-hours : goal.returns-in_ok-hours
 unfolding item_after
-returns-in-ok-hours c = search rules
+returns-in_ok-hours c = search rules
 
-pub returns-in-ok-relation : goal.returns-in-ok-relation
+pub returns-in_ok-relation : goal.returns-in_ok-relation
 unfolding item_after
-returns-in-ok-relation c = search rules
+returns-in_ok-relation c = search rules
 
-pub returns-in-ok-arrow : goal.returns-in-ok-arrow
+pub returns-in_ok-arrow : goal.returns-in_ok-arrow
 unfolding item_after
-returns-in-ok-arrow c = search rules
+returns-in_ok-arrow c = search rules

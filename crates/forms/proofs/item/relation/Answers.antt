@@ -2,25 +2,25 @@ use Rattle.std.proofs.Common.{rules}
 use Rattle.forms.specs.Parts.{relation_at}
 use Rattle.forms.proofs.item.relation.Goals as goal
 
-pub returns-in-err-kind : goal.returns-in-err-kind
+pub returns-in_err-kind : goal.returns-in_err-kind
 unfolding relation_at
-returns-in-err-kind c = search rules
+returns-in_err-kind c = search rules
 
-pub returns-in-err-bound : goal.returns-in-err-bound
+pub returns-in_err-bound : goal.returns-in_err-bound
 unfolding relation_at
-returns-in-err-bound c = search rules
+returns-in_err-bound c = search rules
 
-pub returns-in-err-first : goal.returns-in-err-first
+pub returns-in_err-first : goal.returns-in_err-first
 unfolding relation_at
-returns-in-err-first c = search rules
+returns-in_err-first c = search rules
 
-pub returns-in-err-second : goal.returns-in-err-second
+pub returns-in_err-second : goal.returns-in_err-second
 unfolding relation_at
-returns-in-err-second c = search rules
+returns-in_err-second c = search rules
 
-pub returns-in-err-lag : goal.returns-in-err-lag
+pub returns-in_err-lag : goal.returns-in_err-lag
 unfolding relation_at
-returns-in-err-lag c = search rules
+returns-in_err-lag c = search rules
 
 pub returns : goal.returns
 unfolding relation_at

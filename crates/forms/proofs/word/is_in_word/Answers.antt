@@ -6,11 +6,11 @@ use Rattle.forms.proofs.word.is_in_word.Goals as goal
 pub returns-in-Minus : goal.returns-in-Minus
 unfolding in_word
 returns-in-Minus c =
-    let e : true ≡ of_word c.told-apart.result = search rules in
-    e ∙ ap of_word (c.told-apart.ensures ∙ ap mark_of c.from.ensures)
+    let e : true ≡ of_word c.told_apart.result = search rules in
+    e ∙ ap of_word (c.told_apart.ensures ∙ ap mark_of c.from.ensures)
 
 pub returns-in-Open : goal.returns-in-Open
 unfolding in_word
 returns-in-Open c =
-    let e : false ≡ of_word c.told-apart.result = search rules in
-    e ∙ ap of_word (c.told-apart.ensures ∙ ap mark_of c.from.ensures)
+    let e : false ≡ of_word c.told_apart.result = search rules in
+    e ∙ ap of_word (c.told_apart.ensures ∙ ap mark_of c.from.ensures)

@@ -5,13 +5,13 @@ use Rattle.forms.proofs.word.word_end.Goals as goal
 
 pub loop-end-preserved : goal.loop-end-preserved
 loop-end-preserved c =
-    let more = prefix_len-drop_yes in_word c.args.text.now c.loop-end.end 0 c.loop-end-test.true (sym c.if-is-in-word.ensures) in
+    let more = prefix_len-drop_yes in_word c.args.text.now c.loop-end.end 0 c.loop-end-test.true (sym c.if-is_in_word.ensures) in
     let before = c.loop-end.invariant in
     omega arith
 
-pub returns-else-is-in-word : goal.returns-else-is-in-word
-returns-else-is-in-word c =
-    let none = prefix_len-drop_no in_word c.args.text.now c.loop-end.end 0 c.loop-end-test.true (sym c.if-is-in-word.ensures) in
+pub returns-else-is_in_word : goal.returns-else-is_in_word
+returns-else-is_in_word c =
+    let none = prefix_len-drop_no in_word c.args.text.now c.loop-end.end 0 c.loop-end-test.true (sym c.if-is_in_word.ensures) in
     let before = c.loop-end.invariant in
     omega arith
 

@@ -32,7 +32,7 @@ returns-in-Activity c =
     let rest = left c.next-first.new.self in
     let whole : left c.new-reader.result ≡ text = ap (λ i. drop i c.new-reader.result.text.now) c.new-reader.ensures.start ∙ c.new-reader.ensures.text in
     let reads : Reads text rest c.next-first.result = subst (λ t. Reads t rest c.next-first.result) whole c.next-first.ensures.reads in
-    let some : kind_of c.next-first.result ≡ Some plan.Activity = sym c.kind-of.ensures ∙ c.in-Some.is ∙ ap Some c.in-Activity.is in
+    let some : kind_of c.next-first.result ≡ Some plan.Activity = sym c.kind_of.ensures ∙ c.in-Some.is ∙ ap Some c.in-Activity.is in
     let start = c.over.ensures.past activity_rule [] c.new.ensures in
     record {
       bytes = c.finish.ensures.bytes;
@@ -46,7 +46,7 @@ returns-in-Arrow c =
     let rest = left c.next-first.new.self in
     let whole : left c.new-reader.result ≡ text = ap (λ i. drop i c.new-reader.result.text.now) c.new-reader.ensures.start ∙ c.new-reader.ensures.text in
     let reads : Reads text rest c.next-first.result = subst (λ t. Reads t rest c.next-first.result) whole c.next-first.ensures.reads in
-    let some : kind_of c.next-first.result ≡ Some plan.Arrow = sym c.kind-of.ensures ∙ c.in-Some.is ∙ ap Some c.in-Arrow.is in
+    let some : kind_of c.next-first.result ≡ Some plan.Arrow = sym c.kind_of.ensures ∙ c.in-Some.is ∙ ap Some c.in-Arrow.is in
     let start = c.over-in-Arrow.ensures.past arrow_rule [] c.new-in-Arrow.ensures in
     record {
       bytes = c.finish-in-Arrow.ensures.bytes;

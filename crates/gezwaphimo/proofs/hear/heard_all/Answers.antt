@@ -21,8 +21,8 @@ returns-in-NoForm g c =
     subst (λ k. Heard spanOf entryOf eventOf (g.B.Book.meaning c.args.book.now) 2 (left c.args.reader.now) (refused_text k.line k.layer (number k.why))) (sym c.no_form.ensures)
     (c.loop-form.invariant.1 _ (heard_none spanOf entryOf eventOf m line before _ (ends_no_form spanOf entryOf eventOf m line before (left c.next.new.self) c.next.result c.next.ensures.ends c.next.ensures.reads c.in-NoForm.is)))
 
-pub say-to-requires : goal.say-to-requires
-say-to-requires g c = ((c.next.ensures.reads c.in-Form.form (left c.next.new.self)).0 (c.in-Form.is, refl)).0
+pub say_to-requires : goal.say_to-requires
+say_to-requires g c = ((c.next.ensures.reads c.in-Form.form (left c.next.new.self)).0 (c.in-Form.is, refl)).0
 
 pub returns-in-NoCall : goal.returns-in-NoCall
 returns-in-NoCall g c =
@@ -34,8 +34,8 @@ returns-in-NoCall g c =
     let form = c.in-Form.form in
     let rest = left c.next.new.self in
     let stands = (c.next.ensures.reads form rest).0 (c.in-Form.is, refl) in
-    let none = said_none m (g.B.Book.meaning c.say-to.new.book) (call_of entryOf eventOf form) c.in-NoCall.ensures in
-    subst (λ k. Heard spanOf entryOf eventOf (g.B.Book.meaning c.args.book.now) 2 (left c.args.reader.now) (refused_text k.line k.layer (number k.why))) (sym c.no-form-in-NoCall.ensures)
+    let none = said_none m (g.B.Book.meaning c.say_to.new.book) (call_of entryOf eventOf form) c.in-NoCall.ensures in
+    subst (λ k. Heard spanOf entryOf eventOf (g.B.Book.meaning c.args.book.now) 2 (left c.args.reader.now) (refused_text k.line k.layer (number k.why))) (sym c.no_form-in-NoCall.ensures)
     (c.loop-form.invariant.1 _ (heard_none spanOf entryOf eventOf m line (left c.loop-form.reader) _ (no_call form rest stands.0 stands.1 none refl)))
 
 pub returns-in-Refused : goal.returns-in-Refused
@@ -48,7 +48,7 @@ returns-in-Refused g c =
     let form = c.in-Form.form in
     let rest = left c.next.new.self in
     let stands = (c.next.ensures.reads form rest).0 (c.in-Form.is, refl) in
-    let told = said_err m (g.B.Book.meaning c.say-to.new.book) (call_of entryOf eventOf form) c.in-Refused.refused c.in-Refused.ensures in
+    let told = said_err m (g.B.Book.meaning c.say_to.new.book) (call_of entryOf eventOf form) c.in-Refused.refused c.in-Refused.ensures in
     c.loop-form.invariant.1 _ (heard_none spanOf entryOf eventOf m line (left c.loop-form.reader) _ (refused form rest stands.0 stands.1 told.0 told.1 _ told.2 refl))
 
 pub loop-form-preserved : goal.loop-form-preserved
@@ -57,7 +57,7 @@ loop-form-preserved g c =
     let entryOf = g.Entry.Worded.entryOf in
     let eventOf = g.Entry.Worded.eventOf in
     let m = g.B.Book.meaning c.loop-form.book in
-    let n = g.B.Book.meaning c.say-to.new.book in
+    let n = g.B.Book.meaning c.say_to.new.book in
     let line = c.loop-form.line in
     let form = c.in-Form.form in
     let rest = left c.next.new.self in

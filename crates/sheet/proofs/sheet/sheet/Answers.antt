@@ -10,7 +10,7 @@ use Rattle.sheet.proofs.sheet.sheet.Goals as goal
 pub returns-then-fits : goal.returns-then-fits
 returns-then-fits g c =
     let plan = c.args.plan.now in
-    let rooms = c.rooms-of-rooms.result in
+    let rooms = c.rooms_of-rooms.result in
     let m = g.B.Book.meaning plan.book in
     let lawful : Lawful (network_of m) = subst Lawful (g.met.B.Book.made plan.book) (g.met.B.Network.lawful plan.book) in
     let whole = sheet_bytes g.Entry.Spanned.spanOf g.B.Book.meaning plan rooms in
@@ -18,7 +18,7 @@ returns-then-fits g c =
     let count = c.written.ensures.count in
     record {
       forms = left_of g.Entry.Spanned.spanOf g.B.Book.meaning plan rooms at.Head;
-      sheet = sheet_right g.Entry.Spanned.spanOf m lawful plan.times plan.ring rooms.alone.days rooms.both.days c.rooms-of-rooms.ensures;
+      sheet = sheet_right g.Entry.Spanned.spanOf m lawful plan.times plan.ring rooms.alone.days rooms.both.days c.rooms_of-rooms.ensures;
       told = ap Ok count ∙ sym (cond-true _ _ _ test);
       bytes = c.written.ensures.bytes ∙ ap (λ n. whole ++ drop n c.args.out.now) count ∙ sym (cond-true _ _ _ test);
     }
@@ -26,14 +26,14 @@ returns-then-fits g c =
 pub returns-else-fits : goal.returns-else-fits
 returns-else-fits g c =
     let plan = c.args.plan.now in
-    let rooms = c.rooms-of-rooms.result in
+    let rooms = c.rooms_of-rooms.result in
     let m = g.B.Book.meaning plan.book in
     let lawful : Lawful (network_of m) = subst Lawful (g.met.B.Book.made plan.book) (g.met.B.Network.lawful plan.book) in
     let whole = sheet_bytes g.Entry.Spanned.spanOf g.B.Book.meaning plan rooms in
     let test : leb (length whole) (length c.args.out.now) ≡ false = search rules in
     record {
       forms = left_of g.Entry.Spanned.spanOf g.B.Book.meaning plan rooms at.Head;
-      sheet = sheet_right g.Entry.Spanned.spanOf m lawful plan.times plan.ring rooms.alone.days rooms.both.days c.rooms-of-rooms.ensures;
+      sheet = sheet_right g.Entry.Spanned.spanOf m lawful plan.times plan.ring rooms.alone.days rooms.both.days c.rooms_of-rooms.ensures;
       told = sym (cond-false _ _ _ test);
       bytes = sym (cond-false _ _ _ test);
     }

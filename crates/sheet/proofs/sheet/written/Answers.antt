@@ -21,8 +21,8 @@ overflow-add-end g c =
     let long : length c.args.out.now < 18446744073709551616 = search rules in
     omega arith
 
-pub slice-bounds-copy-from-slice-end : goal.slice-bounds-copy-from-slice-end
-slice-bounds-copy-from-slice-end g c =
+pub slice-bounds-copy_from_slice-end : goal.slice-bounds-copy_from_slice-end
+slice-bounds-copy_from_slice-end g c =
     let plan = c.args.plan.now in
     let rooms = c.args.rooms.now in
     let rest = bytes_left g.Entry.Spanned.spanOf g.B.Book.meaning plan rooms c.in-Some.stride.rest in
@@ -46,15 +46,15 @@ loop-stride-preserved g c =
     let form : xs ≡ shown c.in-Some.stride.form = c.bytes-bytes.ensures ∙ c.text-text.ensures in
     let more : take c.loop-stride.at c.loop-stride.out ++ (xs ++ rest) ≡ whole =
     ap (λ zs. take c.loop-stride.at c.loop-stride.out ++ (zs ++ rest)) form ∙ ap (λ fs. take c.loop-stride.at c.loop-stride.out ++ rendered fs) (sym c.in-Some.ensures.0) ∙ c.loop-stride.invariant.1.1.0 in
-    let copied : c.copy-from-slice.new.self ≡ xs = search rules in
-    (c.in-Some.ensures.1, form_written c.loop-stride.out c.loop-stride.at c.loop-stride.invariant.1.0.1 c.args.out.now xs rest whole (c.loop-stride.at + length xs - c.loop-stride.at) c.copy-from-slice.new.self copied (omega arith) c.loop-stride.invariant.1.0.0 c.requires more c.loop-stride.invariant.1.1.1)
+    let copied : c.copy_from_slice.new.self ≡ xs = search rules in
+    (c.in-Some.ensures.1, form_written c.loop-stride.out c.loop-stride.at c.loop-stride.invariant.1.0.1 c.args.out.now xs rest whole (c.loop-stride.at + length xs - c.loop-stride.at) c.copy_from_slice.new.self copied (omega arith) c.loop-stride.invariant.1.0.0 c.requires more c.loop-stride.invariant.1.1.1)
 
 pub returns : goal.returns
 returns g c =
     let plan = c.args.plan.now in
     let rooms = c.args.rooms.now in
     let whole = sheet_bytes g.Entry.Spanned.spanOf g.B.Book.meaning plan rooms in
-    let done : take c.loop-stride.at c.loop-stride.out ++ [] ≡ whole = ap (λ fs. take c.loop-stride.at c.loop-stride.out ++ rendered fs) (sym c.in-default.ensures) ∙ c.loop-stride.invariant.1.1.0 in
+    let done : take c.loop-stride.at c.loop-stride.out ++ [] ≡ whole = ap (λ fs. take c.loop-stride.at c.loop-stride.out ++ rendered fs) (sym c.in_default.ensures) ∙ c.loop-stride.invariant.1.1.0 in
     let size = room_left c.loop-stride.out c.loop-stride.at c.loop-stride.invariant.1.0.1 [] whole done in
     record {
       count = omega arith;

@@ -27,5 +27,5 @@ pub returns-in-Err : goal.returns-in-Err
 returns-in-Err g c alone both spans lines =
     let plan = c.args.plan.now in
     let m = network_of (g.B.Book.meaning plan.book) in
-    let read : step_read plan.ring (c.args.steps + 1) ≡ Err _ = sym c.ring-step.ensures.answer ∙ c.in-Err.is in
+    let read : step_read plan.ring (c.args.steps + 1) ≡ Err _ = sym c.ring_step.ensures.answer ∙ c.in-Err.is in
     (step_past plan.times alone both m plan.ring c.args.steps c.requires _ read, tt)

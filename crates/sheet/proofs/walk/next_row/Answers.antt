@@ -11,16 +11,16 @@ returns-in-Some g c =
     let m = g.B.Book.meaning plan.book in
     let spans = spans_of g.Entry.Spanned.spanOf m in
     let line = c.loop-line.line in
-    let lines : c.lines-line-end.result ≡ m.rule.lines = search rules in
+    let lines : c.lines-line_end.result ≡ m.rule.lines = search rules in
     let low : line ≤ m.rule.lines = omega arith in
     let some : spans line ≡ Some c.in-Some.span = search rules in
-    let is : c.row-of.result ≡ row_of plan.times plan.ring rooms.alone.days rooms.both.days line c.in-Some.span = c.row-of.ensures in
-    let here : c.row-of.result.line ≡ line = ap (λ row. row.line) is ∙ row_line plan.times plan.ring rooms.alone.days rooms.both.days line c.in-Some.span in
+    let is : c.row_of.result ≡ row_of plan.times plan.ring rooms.alone.days rooms.both.days line c.in-Some.span = c.row_of.ensures in
+    let here : c.row_of.result.line ≡ line = ap (λ row. row.line) is ∙ row_line plan.times plan.ring rooms.alone.days rooms.both.days line c.in-Some.span in
     let first = c.loop-line.invariant.0 in
     record {
       rows = c.loop-line.invariant.1 ∙ rows_some plan.times plan.ring rooms.alone.days rooms.both.days spans m.rule.lines line low c.in-Some.span some
           ∙ ap (λ row. row ∷ rows_from plan.times plan.ring rooms.alone.days rooms.both.days spans (line + 1) (m.rule.lines + 1 - (line + 1))) (sym is)
-          ∙ ap (λ p. c.row-of.result ∷ rows_from plan.times plan.ring rooms.alone.days rooms.both.days spans (p + 1) (m.rule.lines + 1 - (p + 1))) (sym here);
+          ∙ ap (λ p. c.row_of.result ∷ rows_from plan.times plan.ring rooms.alone.days rooms.both.days spans (p + 1) (m.rule.lines + 1 - (p + 1))) (sym here);
       inside = (omega arith, omega arith);
     }
 
@@ -31,7 +31,7 @@ loop-line-preserved g c =
     let m = g.B.Book.meaning plan.book in
     let spans = spans_of g.Entry.Spanned.spanOf m in
     let line = c.loop-line.line in
-    let lines : c.lines-line-end.result ≡ m.rule.lines = search rules in
+    let lines : c.lines-line_end.result ≡ m.rule.lines = search rules in
     let low : line ≤ m.rule.lines = omega arith in
     let none : spans line ≡ None = search rules in
     let first = c.loop-line.invariant.0 in

@@ -12,7 +12,7 @@ returns c =
     let free = decimal row.free in
     let one = length-append start (32 ∷ (finish ++ (32 ∷ free))) in
     let two = length-append finish (32 ∷ free) in
-    let a : c.figure-count-start.result ≡ length start = search rules in
-    let b : c.figure-count-finish.result ≡ length finish = search rules in
-    let d : c.figure-count.result ≡ length free = search rules in
+    let a : c.figure_count-start.result ≡ length start = search rules in
+    let b : c.figure_count-finish.result ≡ length finish = search rules in
+    let d : c.figure_count.result ≡ length free = search rules in
     record { count = omega arith; few = omega arith }

@@ -14,6 +14,6 @@ returns c =
     let d = length-append why (codes ")\n") in
     let b = length-append layer (32 ∷ (why ++ codes ")\n")) in
     let a = length-append line (32 ∷ (layer ++ (32 ∷ (why ++ codes ")\n")))) in
-    let name = ap length c.refuser-name-layer.ensures in
-    let size : c.figure-count.result ≡ length why = search rules in
+    let name = ap length c.refuser_name-layer.ensures in
+    let size : c.figure_count.result ≡ length why = search rules in
     omega arith

@@ -17,6 +17,6 @@ returns c =
     let k = length-append left (32 ∷ (reached ++ (32 ∷ (days ++ codes ")\n")))) in
     let b = length-append number (32 ∷ (left ++ (32 ∷ (reached ++ (32 ∷ (days ++ codes ")\n")))))) in
     let a = length-append layer (32 ∷ (number ++ (32 ∷ (left ++ (32 ∷ (reached ++ (32 ∷ (days ++ codes ")\n")))))))) in
-    let size : c.days-size.result ≡ length days = search rules in
-    let name = ap length c.layer-name-layer.ensures in
+    let size : c.days_size.result ≡ length days = search rules in
+    let name = ap length c.layer_name-layer.ensures in
     omega arith

@@ -15,18 +15,18 @@ take-requires g c = search rules
 pub settle-requires : goal.settle-requires
 settle-requires g c =
     let arcs = c.take.new.self in
-    let zero = λ (e : ℕ). ap (λ ts. time_at ts e) c.from-table-rise.ensures.times ∙ c.noughts.ensures.zero e in
-    let rise = c.from-table-rise in
+    let zero = λ (e : ℕ). ap (λ ts. time_at ts e) c.from_table-rise.ensures.times ∙ c.noughts.ensures.zero e in
+    let rise = c.from_table-rise in
     record {
       risen = risen_none arcs.arcs arcs.count arcs.events rise.result.times rise.result.parents zero rise.ensures.parents;
       bound = none_late arcs.arcs arcs.count arcs.events rise.result.times rise.result.parents zero rise.ensures.parents;
     }
 
-pub at-rest-requires : goal.at-rest-requires
-at-rest-requires g c =
+pub at_rest-requires : goal.at_rest-requires
+at_rest-requires g c =
     let arcs = c.take.new.self in
-    let zero = λ (e : ℕ). ap (λ ts. time_at ts e) c.from-table-rise.ensures.times ∙ c.noughts.ensures.zero e in
-    let rise = c.from-table-rise in
+    let zero = λ (e : ℕ). ap (λ ts. time_at ts e) c.from_table-rise.ensures.times ∙ c.noughts.ensures.zero e in
+    let rise = c.from_table-rise in
     let rest = c.in-Rest.ensures in
     record {
       rising = rest.carries (λ _. 0) (rising_none arcs.arcs arcs.count arcs.events rise.result.times rise.result.parents zero rise.ensures.parents);
@@ -35,11 +35,11 @@ at-rest-requires g c =
       keeps = rest.keeps;
     }
 
-pub ring-from-requires : goal.ring-from-requires
-ring-from-requires g c =
+pub ring_from-requires : goal.ring_from-requires
+ring_from-requires g c =
     let arcs = c.take.new.self in
-    let zero = λ (e : ℕ). ap (λ ts. time_at ts e) c.from-table-rise.ensures.times ∙ c.noughts.ensures.zero e in
-    let rise = c.from-table-rise in
+    let zero = λ (e : ℕ). ap (λ ts. time_at ts e) c.from_table-rise.ensures.times ∙ c.noughts.ensures.zero e in
+    let rise = c.from_table-rise in
     let lifted = c.in-Lifted.ensures in
     record {
       rising = lifted.carries (λ _. 0) (rising_none arcs.arcs arcs.count arcs.events rise.result.times rise.result.parents zero rise.ensures.parents);
@@ -47,11 +47,11 @@ ring-from-requires g c =
       ends = inr (refl, (lifted.first, lifted.rooted));
     }
 
-pub ring-from-requires-in-Ring : goal.ring-from-requires-in-Ring
-ring-from-requires-in-Ring g c =
+pub ring_from-requires-in-Ring : goal.ring_from-requires-in-Ring
+ring_from-requires-in-Ring g c =
     let arcs = c.take.new.self in
-    let zero = λ (e : ℕ). ap (λ ts. time_at ts e) c.from-table-rise.ensures.times ∙ c.noughts.ensures.zero e in
-    let rise = c.from-table-rise in
+    let zero = λ (e : ℕ). ap (λ ts. time_at ts e) c.from_table-rise.ensures.times ∙ c.noughts.ensures.zero e in
+    let rise = c.from_table-rise in
     let there = c.in-Ring.ensures in
     record {
       rising = there.carries (λ _. 0) (rising_none arcs.arcs arcs.count arcs.events rise.result.times rise.result.parents zero rise.ensures.parents);
@@ -60,10 +60,10 @@ ring-from-requires-in-Ring g c =
     }
 
 pub returns-in-Rest : goal.returns-in-Rest
-returns-in-Rest g c = c.at-rest.ensures (g.N.Network.network c.args.network.now) c.take.ensures.gaps (sym c.take.ensures.events)
+returns-in-Rest g c = c.at_rest.ensures (g.N.Network.network c.args.network.now) c.take.ensures.gaps (sym c.take.ensures.events)
 
 pub returns-in-Lifted : goal.returns-in-Lifted
-returns-in-Lifted g c = c.ring-from.ensures (g.N.Network.network c.args.network.now) c.take.ensures.gaps (sym c.take.ensures.events)
+returns-in-Lifted g c = c.ring_from.ensures (g.N.Network.network c.args.network.now) c.take.ensures.gaps (sym c.take.ensures.events)
 
 pub returns-in-Ring : goal.returns-in-Ring
-returns-in-Ring g c = c.ring-from-in-Ring.ensures (g.N.Network.network c.args.network.now) c.take.ensures.gaps (sym c.take.ensures.events)
+returns-in-Ring g c = c.ring_from-in-Ring.ensures (g.N.Network.network c.args.network.now) c.take.ensures.gaps (sym c.take.ensures.events)

@@ -3,8 +3,8 @@ use Rattle.std.proofs.Common.{None}
 use Rattle.table.proofs.Numbered.{at-replicate}
 use Rattle.table.proofs.Table.new.Goals as goal
 
-pub invariant-of-result : goal.invariant-of-result
-invariant-of-result g c = (length-replicate g.row.N None, tt)
+pub invariant_of-result : goal.invariant_of-result
+invariant_of-result g c = (length-replicate g.row.N None, tt)
 
 pub returns : goal.returns
 returns g c = at-replicate g.row.N

@@ -5,8 +5,8 @@ use Rattle.book.proofs.Ranges.{within_parts}
 use Rattle.table.proofs.Numbered.{at_set}
 use Rattle.table.proofs.Table.put.Goals as goal
 
-pub returns-then-is-within : goal.returns-then-is-within
-returns-then-is-within g c =
+pub returns-then-is_within : goal.returns-then-is_within
+returns-then-is_within g c =
     let inside : within c.args.p g.row.N ≡ true = search rules in
     let both = within_parts c.args.p g.row.N inside in
     let size = c.args.self.now.whole in

@@ -5,8 +5,8 @@ use Rattle.activity.proofs.Named.{some_at, some_none}
 use Rattle.activity.proofs.lines.ActivityLines.is_named.Goals as goal
 use Rattle.std.proofs.lemmas.Bool.{cases_eq}
 
-pub returns-then-names-line : goal.returns-then-names-line
-returns-then-names-line c =
+pub returns-then-names_line : goal.returns-then-names_line
+returns-then-names_line c =
     let found : names (standing c.args.self.now.table c.loop-q.q) c.args.p ≡ true = search rules in
     sym (some_at (λ q. names (standing c.args.self.now.table q) c.args.p) 400 c.loop-q.q (omega arith) (omega arith) found)
 

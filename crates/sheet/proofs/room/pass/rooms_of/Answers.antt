@@ -7,7 +7,7 @@ use Rattle.sheet.specs.Rooms.{Rooms}
 use Rattle.sheet.specs.Rows.{earliest_told, length_told}
 use Rattle.sheet.proofs.Rooming.{rooms_start, rooms_none, rooms_gap}
 use Rattle.sheet.proofs.room.pass.rooms_of.Goals as goal
-use Rattle.sheet.proofs.room.pass.rooms_of.Goals.{in-Some, in-default}
+use Rattle.sheet.proofs.room.pass.rooms_of.Goals.{in-Some, in_default}
 
 pub loop-before-init : goal.loop-before-init
 loop-before-init g c keeps long =
@@ -18,8 +18,8 @@ loop-before-init g c keeps long =
     let lawful : Lawful m = subst Lawful (g.met.B.Book.made plan.book) (g.met.B.Network.lawful plan.book) in
     let small = lawful.few_events in
     let none = lawful.nothing_outside 0 (inl (omega arith)) in (
-      rooms_start m t T Finish keeps long none c.until-the-end-alone.result.days (λ e h. c.until-the-end-alone.ensures e (omega arith)),
-      rooms_start m t T Both keeps long none c.until-the-end-both.result.days (λ e h. c.until-the-end-both.ensures e (omega arith)),
+      rooms_start m t T Finish keeps long none c.until_the_end-alone.result.days (λ e h. c.until_the_end-alone.ensures e (omega arith)),
+      rooms_start m t T Both keeps long none c.until_the_end-both.result.days (λ e h. c.until_the_end-both.ensures e (omega arith)),
     )
 
 pub slack-days-requires : goal.slack-days-requires
@@ -80,7 +80,7 @@ loop-before-preserved g c keeps long =
             rooms_gap m t T Finish place gap at met w.slack-days.result z c.loop-before.alone.days c.match-gap.alone.days (omega arith) (ap (λ x. x.days) w.alone-is ∙ search rules) was.0,
             rooms_gap m t T Both place gap at met w.slack-days.result z c.loop-before.both.days c.match-gap.both.days (omega arith) (ap (λ x. x.days) w.both-is ∙ search rules) was.1,
           )
-      | in-default w ↦
+      | in_default w ↦
           let there : (g.B.Network.network plan.book).gap place ≡ None = search rules in
           let none : m.gap place ≡ None = ap (λ x. x.gap place) (sym made) ∙ there in (
             subst (λ x. Rooms m t T Finish (place + 1) x.days) (sym w.alone-is) (rooms_none m t T Finish place none c.loop-before.alone.days was.0),

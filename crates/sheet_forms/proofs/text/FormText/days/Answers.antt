@@ -9,7 +9,7 @@ pub returns : goal.returns
 returns c =
     let days = c.args.days in
     let was = text_of c.args.self.now in
-    let size : c.unsigned-abs.result ≡ nat_abs days = search rules in
+    let size : c.unsigned_abs.result ≡ nat_abs days = search rules in
     let text = c.number.ensures.text in
     elim c.if-days-lt0.branch [
       | then-days-lt0 w ↦
@@ -18,14 +18,14 @@ returns c =
           let before = ap (λ s. s.count) w.self-is in
           let one = w.push.ensures.count in
           record {
-            text = text ∙ ap (λ xs. xs ++ decimal c.unsigned-abs.result) minus ∙ append_assoc was (45 ∷ []) (decimal c.unsigned-abs.result) ∙ ap (λ n. was ++ (45 ∷ decimal n)) size ∙ ap (λ xs. was ++ xs) (sym (signed_below days below));
+            text = text ∙ ap (λ xs. xs ++ decimal c.unsigned_abs.result) minus ∙ append_assoc was (45 ∷ []) (decimal c.unsigned_abs.result) ∙ ap (λ n. was ++ (45 ∷ decimal n)) size ∙ ap (λ xs. was ++ xs) (sym (signed_below days below));
             few = let x = c.number.ensures.few in omega arith;
           }
       | else-days-lt0 w ↦
           let above : pos 0 ≤ℤ days = search rules in
           let before = ap (λ s. s.count) w.self-is in
           record {
-            text = text ∙ ap (λ s. text_of s ++ decimal c.unsigned-abs.result) w.self-is ∙ ap (λ n. was ++ decimal n) size ∙ ap (λ xs. was ++ xs) (sym (signed_above days above));
+            text = text ∙ ap (λ s. text_of s ++ decimal c.unsigned_abs.result) w.self-is ∙ ap (λ n. was ++ decimal n) size ∙ ap (λ xs. was ++ xs) (sym (signed_above days above));
             few = let x = c.number.ensures.few in omega arith;
           }
     ]

@@ -6,9 +6,9 @@ use Rattle.sheet_forms.proofs.text.FormText.number.Goals as goal
 
 pub returns : goal.returns
 returns c =
-    let digits = c.in-figures-digits.result in
-    let long = c.in-figures-digits.ensures.long in
-    let inside = c.in-figures-digits.ensures.inside in
-    let text = c.in-figures-digits.ensures.text in
+    let digits = c.in_figures-digits.result in
+    let long = c.in_figures-digits.ensures.long in
+    let inside = c.in_figures-digits.ensures.inside in
+    let text = c.in_figures-digits.ensures.text in
     let size = length-drop digits.from digits.bytes in
     search (rules, between_to_end)

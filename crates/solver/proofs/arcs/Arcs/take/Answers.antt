@@ -3,10 +3,10 @@ use Rattle.std.proofs.lemmas.List.{length-set}
 use Rattle.solver.proofs.Gathering.{SoFar, so_far_none, so_far_some, so_far_at, gathered_all, arcs_low}
 use Rattle.solver.specs.Rising.{AllLow}
 use Rattle.solver.proofs.arcs.Arcs.take.Goals as goal
-use Rattle.solver.proofs.arcs.Arcs.take.Goals.{in-Some, in-default}
+use Rattle.solver.proofs.arcs.Arcs.take.Goals.{in-Some, in_default}
 
-pub arc-of-requires : goal.arc-of-requires
-arc-of-requires g c =
+pub arc_of-requires : goal.arc_of-requires
+arc_of-requires g c =
     let m = g.N.Network.network c.args.network.now in
     let at : m.gap (c.loop-before.before + 1) ≡ Some c.in-Some.gap = search rules in
     let lawful = g.met.N.Network.lawful c.args.network.now in
@@ -19,19 +19,19 @@ arc-of-requires g c =
       below = bounds.below;
     }
 
-pub invariant-of-self : goal.invariant-of-self
-invariant-of-self g c =
+pub invariant_of-self : goal.invariant_of-self
+invariant_of-self g c =
     let m = g.N.Network.network c.args.network.now in
     let arcs = c.loop-before.self.arcs in
     let n = c.loop-before.self.count in
     let place = c.loop-before.before + 1 in
     let lawful = g.met.N.Network.lawful c.args.network.now in
     let at : m.gap place ≡ Some c.in-Some.gap = search rules in
-    let a = c.arc-of.result in
+    let a = c.arc_of.result in
     let so = c.loop-before.invariant.0 in
     let room : n < 4096 = omega (arith, lawful.few_places, so.few) in
     let long : length (set arcs n a) ≡ 4096 = length-set arcs n a ∙ so.long in
-    let next = so_far_some m arcs n place so a c.in-Some.gap room at c.arc-of.ensures.there (c.arc-of.ensures.same m.events (lawful.bounded place c.in-Some.gap at)) long in
+    let next = so_far_some m arcs n place so a c.in-Some.gap room at c.arc_of.ensures.there (c.arc_of.ensures.same m.events (lawful.bounded place c.in-Some.gap at)) long in
     let same : m.events ≡ c.loop-before.self.events = sym (c.loop-before.invariant.1 ∙ c.requires.events) in
     let low = subst (AllLow (set arcs n a) (n + 1)) same (arcs_low m (set arcs n a) (n + 1) next.each) in (
       long,
@@ -55,12 +55,12 @@ loop-before-preserved g c =
     elim c.match-gap.branch [
       | in-Some w ↦
           let at : m.gap place ≡ Some w.in-Some.gap = search rules in
-          let a = w.arc-of.result in
+          let a = w.arc_of.result in
           let room : n < 4096 = omega (arith, lawful.few_places, so.few) in
           let long : length (set arcs n a) ≡ 4096 = length-set arcs n a ∙ so.long in
-          let next = so_far_some m arcs n place so a w.in-Some.gap room at w.arc-of.ensures.there (w.arc-of.ensures.same m.events (lawful.bounded place w.in-Some.gap at)) long in
+          let next = so_far_some m arcs n place so a w.in-Some.gap room at w.arc_of.ensures.there (w.arc_of.ensures.same m.events (lawful.bounded place w.in-Some.gap at)) long in
           (so_far_at m (set arcs n a) c.match-gap.self.arcs (n + 1) c.match-gap.self.count (place + 1) (sym (ap (λ s. s.arcs) w.self-is)) (sym (ap (λ s. s.count) w.self-is)) next, ap (λ s. s.events) w.self-is ∙ c.loop-before.invariant.1)
-      | in-default w ↦
+      | in_default w ↦
           let none : m.gap place ≡ None = search rules in
           (so_far_at m arcs c.match-gap.self.arcs n c.match-gap.self.count (place + 1) (sym (ap (λ s. s.arcs) w.self-is)) (sym (ap (λ s. s.count) w.self-is)) (so_far_none m arcs n place so none), ap (λ s. s.events) w.self-is ∙ c.loop-before.invariant.1)
     ]

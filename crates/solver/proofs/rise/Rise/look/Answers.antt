@@ -10,7 +10,7 @@ loop-e-init c =
 pub loop-e-preserved : goal.loop-e-preserved
 loop-e-preserved c =
     let arcs = c.args.arcs.now in
-    let found = c.in-default.ensures.found in
+    let found = c.in_default.ensures.found in
     seen_more arcs.arcs arcs.count arcs.events (time_at c.args.self.now.times) (time_at c.args.self.now.parents) 102398976 c.loop-e.marks c.walk.new.marks c.loop-e.e c.loop-e.invariant c.walk.array_long found.0 found.1.0 found.1.1.0 found.1.1.1
 
 pub returns : goal.returns

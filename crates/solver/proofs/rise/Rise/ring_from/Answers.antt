@@ -15,7 +15,7 @@ pub loop-i-init : goal.loop-i-init
 loop-i-init c =
     let arcs = c.args.arcs.now in
     let now = c.args.self.now in
-    climb_none arcs.arcs arcs.count arcs.events (lows arcs) (λ _. 0) (time_at now.times) (time_at now.parents) c.requires.rising 0 (λ e h. omega arith) c.args.r c.no-steps-steps.result c.no-steps-steps.ensures c.requires.inside
+    climb_none arcs.arcs arcs.count arcs.events (lows arcs) (λ _. 0) (time_at now.times) (time_at now.parents) c.requires.rising 0 (λ e h. omega arith) c.args.r c.no_steps-steps.result c.no_steps-steps.ensures c.requires.inside
 
 pub returns-then-parent-eq0 : goal.returns-then-parent-eq0
 returns-then-parent-eq0 c m all same =
@@ -28,7 +28,7 @@ returns-then-parent-eq0 c m all same =
     let small = arcs.small in
     let room : i < 1024 = omega arith in
     let none = c.if-parent-eq0.true in
-    subst (λ s. Contradictory m (last_first (set c.loop-i.steps i s) (i + 1))) (sym c.floor-to.ensures)
+    subst (λ s. Contradictory m (last_first (set c.loop-i.steps i s) (i + 1))) (sym c.floor_to.ensures)
     (⊎_elim
     (λ (ring : RingAt arcs.arcs arcs.count arcs.events t par c.args.r). absurd (ring_raised arcs.arcs arcs.count arcs.events (lows arcs) (λ _. 0) t par c.requires.rising 0 (λ e h. omega arith) c.args.r c.loop-i.steps i c.loop-i.at c.loop-i.invariant room ring few none))
     (λ (lifted : (c.args.r ≡ 0) × ((1 ≤ t 0) × Rooted arcs.arcs arcs.count arcs.events t par 102398976 (arcs.events + 1) 0)). ring_floored arcs.arcs arcs.count arcs.events (lows arcs) (λ _. 0) t par c.requires.rising 0 (λ e h. omega arith) c.args.r c.loop-i.steps i c.loop-i.at c.loop-i.invariant room none lifted.0 (λ e. refl) lifted.1.0 few m all same)
@@ -43,9 +43,9 @@ returns-then-at-r c m all same =
     let small = arcs.small in
     let room : i < 1024 = omega arith in
     let some : 1 ≤ time_at now.parents c.loop-i.at = omega arith in
-    let is = c.step-of.ensures ∙ ap (λ p. step_of (arc_at arcs.arcs (p - 1))) c.from.ensures in
+    let is = c.step_of.ensures ∙ ap (λ p. step_of (arc_at arcs.arcs (p - 1))) c.from.ensures in
     let next : c.from-at.result ≡ (parent_of arcs.arcs arcs.count arcs.events (time_at now.parents) c.loop-i.at).left = c.from-at.ensures ∙ ap (λ p. (arc_at arcs.arcs (p - 1)).left) c.from.ensures in
-    ring_closed arcs.arcs arcs.count arcs.events (lows arcs) (λ _. 0) (time_at now.times) (time_at now.parents) c.requires.rising 0 (λ e h. omega arith) c.args.r c.loop-i.steps i c.loop-i.at c.loop-i.invariant room some c.step-of.result is (sym next ∙ c.if-at-r.true) few m all same
+    ring_closed arcs.arcs arcs.count arcs.events (lows arcs) (λ _. 0) (time_at now.times) (time_at now.parents) c.requires.rising 0 (λ e h. omega arith) c.args.r c.loop-i.steps i c.loop-i.at c.loop-i.invariant room some c.step_of.result is (sym next ∙ c.if-at-r.true) few m all same
 
 pub loop-i-preserved : goal.loop-i-preserved
 loop-i-preserved c =
@@ -56,7 +56,7 @@ loop-i-preserved c =
     let small = arcs.small in
     let room : i < 1024 = omega arith in
     let some : 1 ≤ time_at now.parents c.loop-i.at = omega arith in
-    let is = c.step-of.ensures ∙ ap (λ p. step_of (arc_at arcs.arcs (p - 1))) c.from.ensures in
+    let is = c.step_of.ensures ∙ ap (λ p. step_of (arc_at arcs.arcs (p - 1))) c.from.ensures in
     let next : c.from-at.result ≡ (parent_of arcs.arcs arcs.count arcs.events (time_at now.parents) c.loop-i.at).left = c.from-at.ensures ∙ ap (λ p. (arc_at arcs.arcs (p - 1)).left) c.from.ensures in
-    subst (Climb arcs.arcs arcs.count arcs.events (time_at now.times) (time_at now.parents) c.args.r (set c.loop-i.steps i c.step-of.result) (i + 1)) (sym next)
-    (climb_more arcs.arcs arcs.count arcs.events (lows arcs) (λ _. 0) (time_at now.times) (time_at now.parents) c.requires.rising 0 (λ e h. omega arith) c.args.r c.loop-i.steps i c.loop-i.at c.loop-i.invariant room some c.step-of.result is (λ back. c.if-at-r.false (next ∙ back)))
+    subst (Climb arcs.arcs arcs.count arcs.events (time_at now.times) (time_at now.parents) c.args.r (set c.loop-i.steps i c.step_of.result) (i + 1)) (sym next)
+    (climb_more arcs.arcs arcs.count arcs.events (lows arcs) (λ _. 0) (time_at now.times) (time_at now.parents) c.requires.rising 0 (λ e h. omega arith) c.args.r c.loop-i.steps i c.loop-i.at c.loop-i.invariant room some c.step_of.result is (λ back. c.if-at-r.false (next ∙ back)))

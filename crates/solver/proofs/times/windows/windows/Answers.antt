@@ -17,8 +17,8 @@ settle-requires c =
       bound = greatest_least (time_at c.due.result) arcs.events 3000000000 (λ e h. let x = due_low c.due.result T arcs.events c.due.ensures.first due e h in let y = c.requires.bound in omega arith);
     }
 
-pub invariant-of-result : goal.invariant-of-result
-invariant-of-result c =
+pub invariant_of-result : goal.invariant_of-result
+invariant_of-result c =
     let arcs = c.args.arcs.now in
     let t = time_at c.args.rise.now.times in
     let T = c.longest-length.result in
