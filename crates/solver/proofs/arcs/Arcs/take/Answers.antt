@@ -33,16 +33,16 @@ invariant_of-self g c =
     let long : length (set arcs n a) ≡ 4096 = length-set arcs n a ∙ so.long in
     let next = so_far_some m arcs n place so a c.in-Some.gap room at c.arc_of.ensures.there (c.arc_of.ensures.same m.events (lawful.bounded place c.in-Some.gap at)) long in
     let same : m.events ≡ c.loop-before.self.events = sym (c.loop-before.invariant.1 ∙ c.requires.events) in
-    let low = subst (AllLow (set arcs n a) (n + 1)) same (arcs_low m (set arcs n a) (n + 1) next.each) in (
-      long,
-      (
-        omega arith,
-        (
-          c.loop-before.self.small,
-          ((λ k h. (low k h).0), ((λ k h. (low k h).1.0), ((λ k h. (low k h).1.1.0), ((λ k h. (low k h).1.1.1), tt)))),
-        ),
-      ),
-    )
+    let low = subst (AllLow (set arcs n a) (n + 1)) same (arcs_low m (set arcs n a) (n + 1) next.each) in
+    record {
+      whole = long;
+      few = omega arith;
+      small = c.loop-before.self.small;
+      lefts = λ k h. (low k h).0;
+      ends = λ k h. (low k h).1.0;
+      ups = λ k h. (low k h).1.1.0;
+      downs = λ k h. (low k h).1.1.1;
+    }
 
 pub loop-before-preserved : goal.loop-before-preserved
 loop-before-preserved g c =

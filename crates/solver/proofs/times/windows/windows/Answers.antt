@@ -24,19 +24,14 @@ invariant_of-result c =
     let T = c.longest-length.result in
     let is = c.longest-length.ensures in
     let small = arcs.small in
-    let due : (e : ℕ) → 1 ≤ e → e ≤ arcs.events → time_at c.due.result e ≡ T = λ e low high. c.due.ensures.others e low (omega arith) in (
-      arcs.small,
-      (
-        c.args.rise.now.timed,
-        (
-          c.settle.new.self.timed,
-          (
-            c.settle.ensures.most t c.requires.keeps (under_due c.due.result T arcs.events c.due.ensures.first due t c.requires.first (omega arith)),
-            ((λ e h. let x = c.settle.ensures.falls e in let y = due_low c.due.result T arcs.events c.due.ensures.first due e h in omega arith), tt),
-          ),
-        ),
-      ),
-    )
+    let due : (e : ℕ) → 1 ≤ e → e ≤ arcs.events → time_at c.due.result e ≡ T = λ e low high. c.due.ensures.others e low (omega arith) in
+    record {
+      small = arcs.small;
+      early = c.args.rise.now.timed;
+      late = c.settle.new.self.timed;
+      windows = c.settle.ensures.most t c.requires.keeps (under_due c.due.result T arcs.events c.due.ensures.first due t c.requires.first (omega arith));
+      within = λ e h. let x = c.settle.ensures.falls e in let y = due_low c.due.result T arcs.events c.due.ensures.first due e h in omega arith;
+    }
 
 pub returns : goal.returns
 returns c m all same =
