@@ -11,14 +11,14 @@ above c = (subst (λ (s : State). Writes s c.args.bytes.now) (sym c.in-Above.ens
 below : (c : goal.In-Below) → Six c.in-Below.n
 below c = (subst (λ (s : State). Writes s c.args.bytes.now) (sym c.in-Below.ensures) (writes_made c.args.bytes.now)).0
 
-pub overflow-cast-result : goal.overflow-cast-result
-overflow-cast-result c = let h = above c in search rules
+pub overflow_cast-result : goal.overflow_cast-result
+overflow_cast-result c = let h = above c in search rules
 
-pub overflow-cast-result-in-Below : goal.overflow-cast-result-in-Below
-overflow-cast-result-in-Below c = let h = below c in search rules
+pub overflow_cast-result-in-Below : goal.overflow_cast-result-in-Below
+overflow_cast-result-in-Below c = let h = below c in search rules
 
-pub overflow-sub-result : goal.overflow-sub-result
-overflow-sub-result c = let h = below c in search rules
+pub overflow_sub-result : goal.overflow_sub-result
+overflow_sub-result c = let h = below c in search rules
 
 pub returns-in-Above : goal.returns-in-Above
 returns-in-Above c =

@@ -6,8 +6,8 @@ use Rattle.sheet.specs.Strides.{left_of, bytes_left, sheet_bytes}
 use Rattle.sheet.proofs.Writing.{room_left, all_written, form_written}
 use Rattle.sheet.proofs.sheet.written.Goals as goal
 
-pub overflow-add-end : goal.overflow-add-end
-overflow-add-end g c =
+pub overflow_add-end : goal.overflow_add-end
+overflow_add-end g c =
     let plan = c.args.plan.now in
     let rooms = c.args.rooms.now in
     let rest = bytes_left g.Entry.Spanned.spanOf g.B.Book.meaning plan rooms c.in-Some.stride.rest in
@@ -21,8 +21,8 @@ overflow-add-end g c =
     let long : length c.args.out.now < 18446744073709551616 = search rules in
     omega arith
 
-pub slice-bounds-copy_from_slice-end : goal.slice-bounds-copy_from_slice-end
-slice-bounds-copy_from_slice-end g c =
+pub slice_bounds-copy_from_slice-end : goal.slice_bounds-copy_from_slice-end
+slice_bounds-copy_from_slice-end g c =
     let plan = c.args.plan.now in
     let rooms = c.args.rooms.now in
     let rest = bytes_left g.Entry.Spanned.spanOf g.B.Book.meaning plan rooms c.in-Some.stride.rest in

@@ -7,11 +7,11 @@ use Rattle.sheet.specs.Walking.{steps_left}
 use Rattle.sheet.proofs.Stepping.{few_steps, step_there, step_past}
 use Rattle.sheet.proofs.stride.after_steps.Goals as goal
 
-pub overflow-add-steps : goal.overflow-add-steps
-overflow-add-steps g c = let few = few_steps c.args.plan.now.ring c.args.steps c.requires in omega arith
+pub overflow_add-steps : goal.overflow_add-steps
+overflow_add-steps g c = let few = few_steps c.args.plan.now.ring c.args.steps c.requires in omega arith
 
-pub overflow-add-result : goal.overflow-add-result
-overflow-add-result g c = let few = few_steps c.args.plan.now.ring c.args.steps c.requires in omega arith
+pub overflow_add-result : goal.overflow_add-result
+overflow_add-result g c = let few = few_steps c.args.plan.now.ring c.args.steps c.requires in omega arith
 
 pub returns-in-Ok : goal.returns-in-Ok
 returns-in-Ok g c alone both spans lines =

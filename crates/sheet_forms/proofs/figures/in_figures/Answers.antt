@@ -8,8 +8,8 @@ loop-rest-init c =
     let fits : c.args.n < 2 ^ 64 = search rules in
     (fits, (refl, (omega arith, (length-decimal-le 20 c.args.n (omega arith) (omega arith) fits, sym (append-nil (decimal c.args.n))))))
 
-pub overflow-sub-from : goal.overflow-sub-from
-overflow-sub-from c =
+pub overflow_sub-from : goal.overflow_sub-from
+overflow_sub-from c =
     let fits : c.loop-rest.rest < 2 ^ 64 = c.loop-rest.invariant.0 in
     let some = decimal_nonempty c.loop-rest.rest fits in
     let room = c.loop-rest.invariant.1.1.1.0 in
@@ -25,8 +25,8 @@ loop-rest-preserved c =
     let room = c.loop-rest.invariant.1.1.1.0 in
     (omega arith, (search rules, (omega arith, (omega arith, last_digit c.loop-rest.bytes c.args.n c.loop-rest.from c.loop-rest.rest more fits (omega arith) (omega arith) c.loop-rest.invariant.1.1.1.1))))
 
-pub overflow-sub-from-2 : goal.overflow-sub-from-2
-overflow-sub-from-2 c =
+pub overflow_sub-from-2 : goal.overflow_sub-from-2
+overflow_sub-from-2 c =
     let fits : c.loop-rest.rest < 2 ^ 64 = c.loop-rest.invariant.0 in
     let some = decimal_nonempty c.loop-rest.rest fits in
     let room = c.loop-rest.invariant.1.1.1.0 in
