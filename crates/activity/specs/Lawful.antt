@@ -1,5 +1,5 @@
 -- The rule of the activity book is lawful. Assumes nothing.
-use Rattle.std.specs.Prelude.{◌≡◌, ℕ, ◌+◌, ◌-◌, ◌/◌, ◌≤◌, true, false, cond, not, ◌&&◌, ◌⊎◌, ℤ, pos, negsuc, ◌≤ℤ◌, Some, None, Option, ◌==◌, unsigned_abs}
+use Rattle.std.specs.Prelude.{◌≡◌, ℕ, ◌+◌, ◌/◌, ◌≤◌, true, false, cond, not, ◌&&◌, ◌⊎◌, ℤ, pos, negsuc, ◌≤ℤ◌, Some, None, Option, ◌==◌, unsigned_abs}
 use Rattle.std.proofs.Common.{sym, ap, subst, ◌∙◌, inl, inr, ⊎_elim, arith}
 use Rattle.std.proofs.lemmas.Int.{ints}
 use Rattle.std.proofs.lemmas.Bool.{cond-true, cond-false, and_parts, leb-true, eqb-true}

@@ -1,5 +1,5 @@
 -- What the test `within` tells. Assumes nothing.
-use Rattle.std.proofs.Common.{◌≡◌, ℕ, ◌≤◌, true, false, leb, ◌⊎◌, inl, inr, ⊎_elim}
+use Rattle.std.proofs.Common.{◌≡◌, ℕ, ◌≤◌, true, false, leb, inl, inr, ⊎_elim}
 use Rattle.std.proofs.lemmas.Bool.{and_from, and_parts, and_cases, le-leb, leb-true, leb-false, lt-leb, and_left, and_right}
 use Rattle.network.specs.Meanings.{Outside}
 use Rattle.book.specs.Rules.{within}

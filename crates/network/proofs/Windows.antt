@@ -2,7 +2,7 @@
 use Rattle.std.proofs.Common.{◌≡◌, ℕ, ◌-◌, ◌≤◌, max, arith}
 use Rattle.std.proofs.lemmas.Int.{ints}
 use Rattle.network.specs.Meanings.{Meaning}
-use Rattle.network.specs.Schedules.{Schedule, greatest, length_of, Possible, Sound}
+use Rattle.network.specs.Schedules.{Schedule, length_of, Possible, Sound}
 use Rattle.network.proofs.Lengths.{greatest_bounds, greatest_least, greatest_grows}
 
 -- two schedules, the later moved back by k days, joined by the later time of each event

@@ -1,6 +1,6 @@
 use Rattle.std.proofs.Common.{◌≡◌, ◌+◌, ◌<◌, length, set, Some, None, sym, ap, ◌∙◌, subst, arith, rules}
 use Rattle.std.proofs.lemmas.List.{length-set}
-use Rattle.solver.proofs.Gathering.{SoFar, so_far_none, so_far_some, so_far_at, gathered_all, arcs_low}
+use Rattle.solver.proofs.Gathering.{so_far_none, so_far_some, so_far_at, gathered_all, arcs_low}
 use Rattle.solver.specs.Rising.{AllLow}
 use Rattle.solver.proofs.arcs.Arcs.take.Goals as goal
 use Rattle.solver.proofs.arcs.Arcs.take.Goals.{in-Some, in_default}

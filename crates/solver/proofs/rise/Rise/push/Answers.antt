@@ -1,7 +1,7 @@
-use Rattle.std.proofs.Common.{◌≡◌, ◌-◌, ◌*◌, ◌<◌, ◌≤◌, refl, subst, arith}
+use Rattle.std.proofs.Common.{◌*◌, ◌<◌, ◌≤◌, refl, arith}
 use Rattle.network.proofs.Lengths.{greatest_bounds}
 use Rattle.solver.specs.Arcs.{arc_at}
-use Rattle.solver.specs.Rising.{time_at, Moved}
+use Rattle.solver.specs.Rising.{time_at}
 use Rattle.solver.proofs.Sweeping.{moved_none, moved_one, moved_join}
 use Rattle.solver.proofs.rise.Rise.push.Goals as goal
 
