@@ -476,6 +476,10 @@ writes-folded writes_folded
 writes-made writes_made
 writes-step writes_step
 zero-made zero_made
+entryOf entry_of
+eventOf event_of
+heardNow heard_now
+spanOf span_of
 ◌or-else◌ ◌or_else◌
 """
 

@@ -19,30 +19,30 @@ use Rattle.book.specs.declared.refusal.Layer.TheVariants.{Text}
 use Rattle.sheet_forms.specs.Shown.{refused_text}
 use Rattle.gezwaphimo.specs.Texts.{spelled_all, Done, Carried, Ending, no_form, Heard}
 
-module _ {E : Type 0} (spanOf : E → ℕ → Option Span) (entryOf : Item → Option E) (eventOf : Point → Option ℕ) where
+module _ {E : Type 0} (span_of : E → ℕ → Option Span) (entry_of : Item → Option E) (event_of : Point → Option ℕ) where
   -- nothing is carried out, and the text ends as it stands
-  pub heard_none : (m : BookMeaning E) (line : ℕ) (text bytes : List ℕ) → Ending spanOf entryOf eventOf m line text bytes → Heard spanOf entryOf eventOf m line text bytes
+  pub heard_none : (m : BookMeaning E) (line : ℕ) (text bytes : List ℕ) → Ending span_of entry_of event_of m line text bytes → Heard span_of entry_of event_of m line text bytes
   heard_none m line text bytes ends = record {
     forms = [];
     after = m;
     tail = text;
     whole = refl;
     carried = refl;
-    ends = let same : line ≡ line + 0 = omega arith in subst (λ n. Ending spanOf entryOf eventOf m n text bytes) same ends;
+    ends = let same : line ≡ line + 0 = omega arith in subst (λ n. Ending span_of entry_of event_of m n text bytes) same ends;
   }
 
   -- a form is carried out, and the text goes on after it
-  pub heard_more : (m n : BookMeaning E) (line : ℕ) (f : Form) (rest bytes : List ℕ) → Short f → (c : Call E) → call_of entryOf eventOf f ≡ Some c → refusal m c ≡ None → n ≡ hears m c
-      → Heard spanOf entryOf eventOf n (line + 1) rest bytes → Heard spanOf entryOf eventOf m line (spelled f ++ rest) bytes
+  pub heard_more : (m n : BookMeaning E) (line : ℕ) (f : Form) (rest bytes : List ℕ) → Short f → (c : Call E) → call_of entry_of event_of f ≡ Some c → refusal m c ≡ None → n ≡ hears m c
+      → Heard span_of entry_of event_of n (line + 1) rest bytes → Heard span_of entry_of event_of m line (spelled f ++ rest) bytes
   heard_more m n line f rest bytes short c says taken next more = record {
     forms = f ∷ more.forms;
     after = more.after;
     tail = more.tail;
     whole = ap (λ xs. spelled f ++ xs) more.whole ∙ sym (append_assoc (spelled f) (spelled_all more.forms) more.tail);
-    carried = record { short = short; call = c; says = says; taken = taken; rest = subst (λ k. Carried spanOf entryOf eventOf k more.forms more.after) next more.carried };
+    carried = record { short = short; call = c; says = says; taken = taken; rest = subst (λ k. Carried span_of entry_of event_of k more.forms more.after) next more.carried };
     ends =
         let same : line + 1 + length more.forms ≡ line + length (f ∷ more.forms) = omega arith in
-        subst (λ k. Ending spanOf entryOf eventOf more.after k more.tail bytes) same more.ends;
+        subst (λ k. Ending span_of entry_of event_of more.after k more.tail bytes) same more.ends;
   }
 
 no_form_not_end : next.NoForm ≡ next.End → ⊥
@@ -52,9 +52,9 @@ no_form_not_form : (f : Form) → next.NoForm ≡ next.Form f → ⊥
 no_form_not_form f e = let z : ◌≡◌ {A = ℕ} 0 1 = cc in omega arith
 
 -- the reader finds no form there
-pub ends_no_form : {E : Type 0} (spanOf : E → ℕ → Option Span) (entryOf : Item → Option E) (eventOf : Point → Option ℕ) (m : BookMeaning E) (line : ℕ) (before after : List ℕ) (answer : Next)
-    → Ends before answer → Reads before after answer → answer ≡ next.NoForm → Ending spanOf entryOf eventOf m line before (refused_text line Text 13)
-ends_no_form spanOf entryOf eventOf m line before after answer ends reads is = no_form
+pub ends_no_form : {E : Type 0} (span_of : E → ℕ → Option Span) (entry_of : Item → Option E) (event_of : Point → Option ℕ) (m : BookMeaning E) (line : ℕ) (before after : List ℕ) (answer : Next)
+    → Ends before answer → Reads before after answer → answer ≡ next.NoForm → Ending span_of entry_of event_of m line before (refused_text line Text 13)
+ends_no_form span_of entry_of event_of m line before after answer ends reads is = no_form
     (λ none. no_form_not_end (sym is ∙ ends.1 none))
     (λ f rest short stands. no_form_not_form f (sym is ∙ ((reads f rest).1 (short, stands)).0))
     refl

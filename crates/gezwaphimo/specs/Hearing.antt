@@ -29,7 +29,7 @@ abbrev pub SaidBy : {E : Type 0} → Option (Call E) → BookMeaning E → BookM
 SaidBy None m n answer = (answer ≡ NoCall) × (n ≡ m)
 SaidBy (Some c) m n answer = (said_told answer ≡ Some (refusal m c)) × (n ≡ hears m c)
 
-module _ {E : Type 0} (spanOf : E → ℕ → Option Span) (entryOf : Item → Option E) (eventOf : Point → Option ℕ) where
+module _ {E : Type 0} (span_of : E → ℕ → Option Span) (entry_of : Item → Option E) (event_of : Point → Option ℕ) where
   abbrev pub HeardAll : BookMeaning E → BookMeaning E → List ℕ → Option TextRefusal → Type 0
-  HeardAll m n text None = (bytes : List ℕ) → Sheeted spanOf entryOf eventOf n bytes → Heard spanOf entryOf eventOf m 2 text bytes
-  HeardAll m n text (Some k) = Heard spanOf entryOf eventOf m 2 text (refused_text k.line k.layer (number k.why))
+  HeardAll m n text None = (bytes : List ℕ) → Sheeted span_of entry_of event_of n bytes → Heard span_of entry_of event_of m 2 text bytes
+  HeardAll m n text (Some k) = Heard span_of entry_of event_of m 2 text (refused_text k.line k.layer (number k.why))

@@ -38,12 +38,12 @@ abbrev pub spelled_all : List Form → List ℕ
 spelled_all [] = []
 spelled_all (f ∷ fs) = spelled f ++ spelled_all fs
 
-module _ {E : Type 0} (spanOf : E → ℕ → Option Span) (entryOf : Item → Option E) (eventOf : Point → Option ℕ) where
+module _ {E : Type 0} (span_of : E → ℕ → Option Span) (entry_of : Item → Option E) (event_of : Point → Option ℕ) where
   -- a form that says a call which is carried out
   pub record Done (m : BookMeaning E) (f : Form) (Rest : BookMeaning E → Type 0) : Type 0 where
     pub short : Short f
     pub call : Call E
-    pub says : call_of entryOf eventOf f ≡ Some call
+    pub says : call_of entry_of event_of f ≡ Some call
     pub taken : refusal m call ≡ None
     pub rest : Rest (hears m call)
 
@@ -56,7 +56,7 @@ module _ {E : Type 0} (spanOf : E → ℕ → Option Span) (entryOf : Item → O
     pub ring : Option Ring
     pub right : Right (network_of m) times ring
     pub forms : List SheetForm
-    pub sheet : SheetOf spanOf m times ring forms
+    pub sheet : SheetOf span_of m times ring forms
     pub is : bytes ≡ rendered forms
 
   pub data Ending (m : BookMeaning E) (line : ℕ) (tail bytes : List ℕ) : Type 0 where
@@ -65,9 +65,9 @@ module _ {E : Type 0} (spanOf : E → ℕ → Option Span) (entryOf : Item → O
     -- no form stands there
     no_form : (tail ≢ []) → ((f : Form) (rest : List ℕ) → Short f → tail ≢ spelled f ++ rest) → bytes ≡ refused_text line Text 13 → Ending m line tail bytes
     -- a form of the other kind of plan stands there, or one that begins a plan
-    no_call : (f : Form) (rest : List ℕ) → Short f → tail ≡ spelled f ++ rest → call_of entryOf eventOf f ≡ None → bytes ≡ refused_text line Text 13 → Ending m line tail bytes
+    no_call : (f : Form) (rest : List ℕ) → Short f → tail ≡ spelled f ++ rest → call_of entry_of event_of f ≡ None → bytes ≡ refused_text line Text 13 → Ending m line tail bytes
     -- a form stands there whose call is refused
-    refused : (f : Form) (rest : List ℕ) → Short f → tail ≡ spelled f ++ rest → (c : Call E) → call_of entryOf eventOf f ≡ Some c → (k : Told) → refusal m c ≡ Some k → bytes ≡ refused_text line k.layer k.number → Ending m line tail bytes
+    refused : (f : Form) (rest : List ℕ) → Short f → tail ≡ spelled f ++ rest → (c : Call E) → call_of entry_of event_of f ≡ Some c → (k : Told) → refusal m c ≡ Some k → bytes ≡ refused_text line k.layer k.number → Ending m line tail bytes
 
   pub record Heard (m : BookMeaning E) (line : ℕ) (text bytes : List ℕ) : Type 0 where
     pub forms : List Form
@@ -89,9 +89,9 @@ pub record Poured (bytes before now : List ℕ) (answer : Result ℕ Refused) : 
   pub held : now ≡ cond (nat_le (length bytes) (length before)) (bytes ++ drop (length bytes) before) before
 
 -- the answer to the rest of a text is in the caller's bytes, or is refused
-pub record RestAnswered {E : Type 0} (spanOf : E → ℕ → Option Span) (entryOf : Item → Option E) (eventOf : Point → Option ℕ) (m : BookMeaning E) (rest before now : List ℕ) (answer : Result ℕ Refused) : Type 0 where
+pub record RestAnswered {E : Type 0} (span_of : E → ℕ → Option Span) (entry_of : Item → Option E) (event_of : Point → Option ℕ) (m : BookMeaning E) (rest before now : List ℕ) (answer : Result ℕ Refused) : Type 0 where
   pub bytes : List ℕ
-  pub heard : Heard spanOf entryOf eventOf m 2 rest bytes
+  pub heard : Heard span_of entry_of event_of m 2 rest bytes
   pub poured : Poured bytes before now answer
 
 -- the answer to a text is in the caller's bytes, or is refused

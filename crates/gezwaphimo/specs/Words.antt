@@ -37,11 +37,11 @@ node_of_point (Start p) = None
 node_of_point (Finish p) = None
 node_of_point (Node e) = Some e
 
-module _ {E : Type 0} (entryOf : Item → Option E) (eventOf : Point → Option ℕ) where
+module _ {E : Type 0} (entry_of : Item → Option E) (event_of : Point → Option ℕ) where
   abbrev pub call_of : Form → Option (calls.Call E)
   call_of (Plan k) = None
-  call_of (Enter p i) = option_map (calls.enter p) (entryOf i)
-  call_of (Alter p i) = option_map (calls.alter p) (entryOf i)
+  call_of (Enter p i) = option_map (calls.enter p) (entry_of i)
+  call_of (Alter p i) = option_map (calls.alter p) (entry_of i)
   call_of (Strike p) = Some (calls.strike p)
-  call_of (Date q at bound day) = option_map (λ e. calls.date q (record { event = e; bound = bound; day = day })) (eventOf at)
+  call_of (Date q at bound day) = option_map (λ e. calls.date q (record { event = e; bound = bound; day = day })) (event_of at)
   call_of (Clear q) = Some (calls.clear q)

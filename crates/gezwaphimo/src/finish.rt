@@ -24,7 +24,7 @@ pub(crate) fn finish<B: Book + Drop>(
 where
     B::Entry: Worded + Spanned,
     requires { length (left rest) < 2 ^ 63 }
-    ensures { RestAnswered B.Entry.Spanned.spanOf B.Entry.Worded.entryOf B.Entry.Worded.eventOf (B.Book.meaning start) (left rest.entry) out.old out.new result }
+    ensures { RestAnswered B.Entry.Spanned.span_of B.Entry.Worded.entry_of B.Entry.Worded.event_of (B.Book.meaning start) (left rest.entry) out.old out.new result }
 {
     let mut book = start;
     let mut reader = rest;

@@ -28,7 +28,7 @@ pub(crate) fn heard_all<B: Book>(book: &mut B, reader: &mut Reader) -> Option<Te
 where
     B::Entry: Worded + Spanned,
     requires { length (left reader.old) < 2 ^ 63 }
-    ensures { HeardAll B.Entry.Spanned.spanOf B.Entry.Worded.entryOf B.Entry.Worded.eventOf (B.Book.meaning book.old) (B.Book.meaning book.new) (left reader.old) result }
+    ensures { HeardAll B.Entry.Spanned.span_of B.Entry.Worded.entry_of B.Entry.Worded.event_of (B.Book.meaning book.old) (B.Book.meaning book.new) (left reader.old) result }
 {
     let mut line = 2;
     loop {

@@ -38,7 +38,7 @@ pub(crate) fn say_to<B: Book>(book: &mut B, form: Form) -> Said
 where
     B::Entry: Worded,
     requires { Short form }
-    ensures { SaidBy (call_of B.Entry.Worded.entryOf B.Entry.Worded.eventOf form) (B.Book.meaning book.old) (B.Book.meaning book.new) result }
+    ensures { SaidBy (call_of B.Entry.Worded.entry_of B.Entry.Worded.event_of form) (B.Book.meaning book.old) (B.Book.meaning book.new) result }
 {
     match form {
         Form::Plan(_) => Said::NoCall,

@@ -13,25 +13,25 @@ use forms::form::{Item, Point};
 /// An entry that can be written in a text.
 pub(crate) trait Worded: Sized {
     /// The entry that an item says; nothing where the item is of the other kind of plan.
-    ghost entryOf: { Item → Option Self };
+    ghost entry_of: { Item → Option Self };
 
     /// The event that a point names; nothing where the point is of the other kind of plan.
-    ghost eventOf: { Point → Option ℕ };
+    ghost event_of: { Point → Option ℕ };
 
     /// The entry of an item.
     fn entry_of(item: Item) -> Option<Self>
-        ensures { result ≡ entryOf item };
+        ensures { result ≡ entry_of item };
 
     /// The event of a point.
     fn event_of(point: Point) -> Option<usize>
         requires { FewPoint point }
-        ensures { result ≡ eventOf point };
+        ensures { result ≡ event_of point };
 }
 
 impl Worded for Entry {
-    ghost entryOf = { entry_of_item };
+    ghost entry_of = { entry_of_item };
 
-    ghost eventOf = { event_of_point };
+    ghost event_of = { event_of_point };
 
     fn entry_of(item: Item) -> Option<Entry> {
         match item {
@@ -51,9 +51,9 @@ impl Worded for Entry {
 }
 
 impl Worded for Arrow {
-    ghost entryOf = { arrow_of_item };
+    ghost entry_of = { arrow_of_item };
 
-    ghost eventOf = { node_of_point };
+    ghost event_of = { node_of_point };
 
     fn entry_of(item: Item) -> Option<Arrow> {
         match item {

@@ -23,7 +23,7 @@ where
     ensures right { Right (network_of (hears_all (B.Book.meaning book) calls.now)) result.times result.ring }
     ensures past { LedTo (B.Book.meaning book) (B.Book.meaning result.book) calls.now }
     ensures heard { RightAfterAll (B.Book.meaning book) calls.now result.times result.ring }
-    ensures sheets { AllAsked B.Entry.Spanned.spanOf (B.Book.meaning book) calls.now bytes.old bytes.new }
+    ensures sheets { AllAsked B.Entry.Spanned.span_of (B.Book.meaning book) calls.now bytes.old bytes.new }
 {
     let mut stage = Stage::Open(OpenPlan::over(book));
     for call in calls {

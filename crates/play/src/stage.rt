@@ -106,7 +106,7 @@ impl<B: Book> Stage<B> {
         requires { Upright B.Book.meaning self }
         ensures same { book_in result ≡ book_in self }
         ensures upright { Upright B.Book.meaning result }
-        ensures asked { SheetInto B.Entry.Spanned.spanOf (B.Book.meaning (book_in self)) bytes.old bytes.new }
+        ensures asked { SheetInto B.Entry.Spanned.span_of (B.Book.meaning (book_in self)) bytes.old bytes.new }
     {
         let plan = self.issued();
         let _ = sheet(&plan, bytes);
@@ -120,7 +120,7 @@ impl<B: Book> Stage<B> {
         requires { Upright B.Book.meaning self }
         ensures after { B.Book.meaning (book_in result) ≡ hears (B.Book.meaning (book_in self)) (heard_as call) }
         ensures upright { Upright B.Book.meaning result }
-        ensures asked { Asked B.Entry.Spanned.spanOf (B.Book.meaning (book_in self)) call bytes.old bytes.new }
+        ensures asked { Asked B.Entry.Spanned.span_of (B.Book.meaning (book_in self)) call bytes.old bytes.new }
     {
         match call {
             PlanCall::Issue => Stage::Issued(self.issued()),

@@ -47,15 +47,15 @@ module _ (m : Meaning) (lawful : Lawful m) (ts : Times) (ring : Option Ring) (al
   rows_right spans zero p = refl
   rows_right spans (suc n) p = line_right p (RowsFor m ts ring spans (p + 1) n) (rows_from ts ring alone both spans (p + 1) n) (rows_right spans n (p + 1)) (spans p)
 
-pub sheet_right : {E : Type 0} (spanOf : E → ℕ → Option Span) (m : BookMeaning E) → Lawful (network_of m) → (ts : Times) (ring : Option Ring) (alone both : List ℕ)
+pub sheet_right : {E : Type 0} (span_of : E → ℕ → Option Span) (m : BookMeaning E) → Lawful (network_of m) → (ts : Times) (ring : Option Ring) (alone both : List ℕ)
     → RoomsFor (network_of m) (earliest_told ts ring) (length_told ts ring) alone both
-    → SheetOf spanOf m ts ring (whole ts ring alone both (network_of m) (spans_of spanOf m) m.rule.lines ring)
-sheet_right spanOf m lawful ts None alone both rooms = record {
-  rows = rows_from ts None alone both (spans_of spanOf m) 1 m.rule.lines;
-  each = rows_right (network_of m) lawful ts None alone both rooms (spans_of spanOf m) m.rule.lines 1;
+    → SheetOf span_of m ts ring (whole ts ring alone both (network_of m) (spans_of span_of m) m.rule.lines ring)
+sheet_right span_of m lawful ts None alone both rooms = record {
+  rows = rows_from ts None alone both (spans_of span_of m) 1 m.rule.lines;
+  each = rows_right (network_of m) lawful ts None alone both rooms (spans_of span_of m) m.rule.lines 1;
   all =
-      let rows = rows_from ts None alone both (spans_of spanOf m) 1 m.rule.lines in
+      let rows = rows_from ts None alone both (spans_of span_of m) 1 m.rule.lines in
       let none : 0 + length rows ≡ length rows = omega arith in
       ap (λ n. form.Length ts.length ∷ (map form.Line rows ++ (form.End n ∷ []))) none;
 }
-sheet_right spanOf m lawful ts (Some r) alone both rooms = refl
+sheet_right span_of m lawful ts (Some r) alone both rooms = refl

@@ -1,5 +1,5 @@
 -- The sheet of an issued plan, and its delivery. Assumes nothing.
---     spans_of spanOf m      the span on each line
+--     spans_of span_of m      the span on each line
 --     owned m s             a step of a ring, with the owner of its place
 --     SheetOf .. fs         the forms fs are the sheet
 --     rendered fs           their bytes
@@ -23,7 +23,7 @@ use Rattle.sheet.specs.declared.span.Span.{Span}
 use Rattle.sheet.specs.Rows.{RowsFor}
 
 abbrev pub spans_of : {E : Type 0} → (E → ℕ → Option Span) → BookMeaning E → ℕ → Option Span
-spans_of spanOf m p = after (m.ledger.line p) (λ e. spanOf e p)
+spans_of span_of m p = after (m.ledger.line p) (λ e. span_of e p)
 
 abbrev pub owned : Meaning → Step → SheetForm
 owned m s = form.Step (record { owner = m.owner s.place; gap = s.gap })
@@ -38,16 +38,16 @@ abbrev pub ring_sheet : Meaning → List Step → List SheetForm
 ring_sheet m steps = form.Contradiction (length steps) ∷ (map (owned m) steps ++ (form.End (length steps) ∷ []))
 
 abbrev pub SheetOf : {E : Type 0} → (E → ℕ → Option Span) → BookMeaning E → Times → Option Ring → List SheetForm → Type 0
-SheetOf spanOf m ts None fs = SoundSheet (network_of m) ts None (spans_of spanOf m) m.rule.lines fs
-SheetOf spanOf m ts (Some ring) fs = fs ≡ ring_sheet (network_of m) (ring_steps ring)
+SheetOf span_of m ts None fs = SoundSheet (network_of m) ts None (spans_of span_of m) m.rule.lines fs
+SheetOf span_of m ts (Some ring) fs = fs ≡ ring_sheet (network_of m) (ring_steps ring)
 
 abbrev pub rendered : List SheetForm → List ℕ
 rendered [] = []
 rendered (f ∷ fs) = shown f ++ rendered fs
 
 -- refused exactly where the slice is shorter than the sheet; past the sheet it is as it was
-pub record Delivered {E : Type 0} (spanOf : E → ℕ → Option Span) (m : BookMeaning E) (ts : Times) (ring : Option Ring) (before now : List ℕ) (answer : Result ℕ Refused) : Type 0 where
+pub record Delivered {E : Type 0} (span_of : E → ℕ → Option Span) (m : BookMeaning E) (ts : Times) (ring : Option Ring) (before now : List ℕ) (answer : Result ℕ Refused) : Type 0 where
   pub forms : List SheetForm
-  pub sheet : SheetOf spanOf m ts ring forms
+  pub sheet : SheetOf span_of m ts ring forms
   pub told : answer ≡ cond (nat_le (length (rendered forms)) (length before)) (Ok (length (rendered forms))) (Err (refused_at BufferTooShort 0))
   pub bytes : now ≡ cond (nat_le (length (rendered forms)) (length before)) (rendered forms ++ drop (length (rendered forms)) before) before

@@ -40,10 +40,10 @@ abbrev pub Strode : Option Ring → ℕ → (Walk → List SheetForm) → Walk �
 Strode ring lines forms w None = forms w ≡ []
 Strode ring lines forms w (Some s) = (forms w ≡ s.form ∷ forms s.rest) × Ready ring lines s.rest
 
-module _ {B E : Type 0} (spanOf : E → ℕ → Option Span) (meaning : B → BookMeaning E) (plan : IssuedPlan B E) (rooms : AllRooms) where
+module _ {B E : Type 0} (span_of : E → ℕ → Option Span) (meaning : B → BookMeaning E) (plan : IssuedPlan B E) (rooms : AllRooms) where
   -- the forms that are left of a plan's sheet
   abbrev pub left_of : Walk → List SheetForm
-  left_of = left plan.times plan.ring rooms.alone.days rooms.both.days (network_of (meaning plan.book)) (spans_of spanOf (meaning plan.book)) (meaning plan.book).rule.lines
+  left_of = left plan.times plan.ring rooms.alone.days rooms.both.days (network_of (meaning plan.book)) (spans_of span_of (meaning plan.book)) (meaning plan.book).rule.lines
 
   abbrev pub ReadyAt : Walk → Type 0
   ReadyAt = Ready plan.ring (meaning plan.book).rule.lines

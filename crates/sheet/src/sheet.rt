@@ -15,7 +15,7 @@ use plan::issued::IssuedPlan;
 fn fits<B: Book>(plan: &IssuedPlan<B>, rooms: &AllRooms, bytes: usize) -> bool
 where
     B::Entry: Spanned,
-    ensures { result ≡ nat_le (length (sheet_bytes B.Entry.Spanned.spanOf B.Book.meaning plan.now rooms.now)) bytes }
+    ensures { result ≡ nat_le (length (sheet_bytes B.Entry.Spanned.span_of B.Book.meaning plan.now rooms.now)) bytes }
 {
     let mut free = bytes;
     let mut walk = Walk::Head;
@@ -34,9 +34,9 @@ where
 fn written<B: Book>(plan: &IssuedPlan<B>, rooms: &AllRooms, out: &mut [u8]) -> usize
 where
     B::Entry: Spanned,
-    requires { length (sheet_bytes B.Entry.Spanned.spanOf B.Book.meaning plan.now rooms.now) ≤ length out.old }
-    ensures count { result ≡ length (sheet_bytes B.Entry.Spanned.spanOf B.Book.meaning plan.now rooms.now) }
-    ensures bytes { out.new ≡ sheet_bytes B.Entry.Spanned.spanOf B.Book.meaning plan.now rooms.now ++ drop result out.old }
+    requires { length (sheet_bytes B.Entry.Spanned.span_of B.Book.meaning plan.now rooms.now) ≤ length out.old }
+    ensures count { result ≡ length (sheet_bytes B.Entry.Spanned.span_of B.Book.meaning plan.now rooms.now) }
+    ensures bytes { out.new ≡ sheet_bytes B.Entry.Spanned.span_of B.Book.meaning plan.now rooms.now ++ drop result out.old }
 {
     let mut at = 0;
     let mut walk = Walk::Head;
@@ -56,7 +56,7 @@ where
 pub fn sheet<B: Book>(plan: &IssuedPlan<B>, out: &mut [u8]) -> Result<usize, Refused>
 where
     B::Entry: Spanned,
-    ensures { Delivered B.Entry.Spanned.spanOf (B.Book.meaning plan.now.book) plan.now.times plan.now.ring out.old out.new result }
+    ensures { Delivered B.Entry.Spanned.span_of (B.Book.meaning plan.now.book) plan.now.times plan.now.ring out.old out.new result }
 {
     let rooms = rooms_of(plan);
     if fits(plan, &rooms, out.len()) {

@@ -8,9 +8,9 @@ use crate::span::Span;
 /// An entry that may have a row of its own.
 pub trait Spanned {
     /// What the row of the entry on a line is for; nothing where it has none.
-    ghost spanOf: { Self → ℕ → Option Span };
+    ghost span_of: { Self → ℕ → Option Span };
 
     /// The span of the entry on a line.
     fn span(&self, line: usize) -> Option<Span>
-        ensures { result ≡ spanOf self.now line };
+        ensures { result ≡ span_of self.now line };
 }

@@ -8,7 +8,7 @@ use activity::entry::Entry;
 use arrow::entry::Arrow;
 
 impl Spanned for Entry {
-    ghost spanOf = { span_of_entry };
+    ghost span_of = { span_of_entry };
 
     fn span(&self, _line: usize) -> Option<Span> {
         match self {
@@ -25,7 +25,7 @@ impl Spanned for Entry {
 }
 
 impl Spanned for Arrow {
-    ghost spanOf = { span_of_arrow };
+    ghost span_of = { span_of_arrow };
 
     fn span(&self, _line: usize) -> Option<Span> {
         Some(Span::Arrow(self.from, self.to, self.days))

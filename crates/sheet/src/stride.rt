@@ -62,8 +62,8 @@ fn after_steps<B: Book>(plan: &IssuedPlan<B>, steps: usize) -> Stride
 fn after_rows<B: Book>(plan: &IssuedPlan<B>, rooms: &AllRooms, line: usize, made: usize) -> Stride
 where
     B::Entry: Spanned,
-    requires { ReadyAt B.Entry.Spanned.spanOf B.Book.meaning plan.now rooms.now (at.Line line made) }
-    ensures { StrodeFrom B.Entry.Spanned.spanOf B.Book.meaning plan.now rooms.now (at.Line line made) (Some result) }
+    requires { ReadyAt B.Entry.Spanned.span_of B.Book.meaning plan.now rooms.now (at.Line line made) }
+    ensures { StrodeFrom B.Entry.Spanned.span_of B.Book.meaning plan.now rooms.now (at.Line line made) (Some result) }
 {
     match next_row(plan, rooms, line) {
         Some(row) => Stride {
@@ -82,8 +82,8 @@ impl Walk {
     pub(crate) fn next<B: Book>(self, plan: &IssuedPlan<B>, rooms: &AllRooms) -> Option<Stride>
     where
         B::Entry: Spanned,
-        requires { ReadyAt B.Entry.Spanned.spanOf B.Book.meaning plan.now rooms.now self }
-        ensures { StrodeFrom B.Entry.Spanned.spanOf B.Book.meaning plan.now rooms.now self result }
+        requires { ReadyAt B.Entry.Spanned.span_of B.Book.meaning plan.now rooms.now self }
+        ensures { StrodeFrom B.Entry.Spanned.span_of B.Book.meaning plan.now rooms.now self result }
     {
         match self {
             Walk::Head => Some(head(plan)),

@@ -26,7 +26,7 @@ pub(crate) enum Walk {
 fn span_at<B: Book>(book: &B, line: usize) -> Option<Span>
 where
     B::Entry: Spanned,
-    ensures { result ≡ spans_of B.Entry.Spanned.spanOf (B.Book.meaning book.now) line }
+    ensures { result ≡ spans_of B.Entry.Spanned.span_of (B.Book.meaning book.now) line }
 {
     match book.line(line) {
         Some(entry) => entry.span(line),
@@ -39,7 +39,7 @@ pub(crate) fn next_row<B: Book>(plan: &IssuedPlan<B>, rooms: &AllRooms, first: u
 where
     B::Entry: Spanned,
     requires { 1 ≤ first }
-    ensures rows { rows_from plan.now.times plan.now.ring rooms.now.alone.days rooms.now.both.days (spans_of B.Entry.Spanned.spanOf (B.Book.meaning plan.now.book)) first ((B.Book.meaning plan.now.book).rule.lines + 1 - first) ≡ next_rows plan.now.times plan.now.ring rooms.now.alone.days rooms.now.both.days (spans_of B.Entry.Spanned.spanOf (B.Book.meaning plan.now.book)) (B.Book.meaning plan.now.book).rule.lines result }
+    ensures rows { rows_from plan.now.times plan.now.ring rooms.now.alone.days rooms.now.both.days (spans_of B.Entry.Spanned.span_of (B.Book.meaning plan.now.book)) first ((B.Book.meaning plan.now.book).rule.lines + 1 - first) ≡ next_rows plan.now.times plan.now.ring rooms.now.alone.days rooms.now.both.days (spans_of B.Entry.Spanned.span_of (B.Book.meaning plan.now.book)) (B.Book.meaning plan.now.book).rule.lines result }
     ensures inside { RowInside first (B.Book.meaning plan.now.book).rule.lines result }
 {
     let book = plan.book();

@@ -2,34 +2,34 @@ use Rattle.std.proofs.Common.{rules}
 use Rattle.forms.specs.Parts.{item_after}
 use Rattle.forms.proofs.item.item_after.Goals as goal
 
-pub returns-in_err-days : goal.returns-in_err-days
+pub returns-in_err-days-in-Days : goal.returns-in_err-days-in-Days
 unfolding item_after
-returns-in_err-days c = search rules
+returns-in_err-days-in-Days c = search rules
 
-pub returns-in_err-hours : goal.returns-in_err-hours
+pub returns-in_err-hours-in-Hours : goal.returns-in_err-hours-in-Hours
 unfolding item_after
-returns-in_err-hours c = search rules
+returns-in_err-hours-in-Hours c = search rules
 
-pub returns-in_err-relation : goal.returns-in_err-relation
+pub returns-in_err-relation-in-Relation : goal.returns-in_err-relation-in-Relation
 unfolding item_after
-returns-in_err-relation c = search rules
+returns-in_err-relation-in-Relation c = search rules
 
-pub returns-in_err-arrow : goal.returns-in_err-arrow
+pub returns-in_err-arrow-in-Arrow : goal.returns-in_err-arrow-in-Arrow
 unfolding item_after
-returns-in_err-arrow c = search rules
+returns-in_err-arrow-in-Arrow c = search rules
 
-pub returns-in_ok-days : goal.returns-in_ok-days
+pub returns-in_ok-days-in-Days : goal.returns-in_ok-days-in-Days
 unfolding item_after
-returns-in_ok-days c = search rules
+returns-in_ok-days-in-Days c = search rules
 
-pub returns-in_ok-hours : goal.returns-in_ok-hours
+pub returns-in_ok-hours-in-Hours : goal.returns-in_ok-hours-in-Hours
 unfolding item_after
-returns-in_ok-hours c = search rules
+returns-in_ok-hours-in-Hours c = search rules
 
-pub returns-in_ok-relation : goal.returns-in_ok-relation
+pub returns-in_ok-relation-in-Relation : goal.returns-in_ok-relation-in-Relation
 unfolding item_after
-returns-in_ok-relation c = search rules
+returns-in_ok-relation-in-Relation c = search rules
 
-pub returns-in_ok-arrow : goal.returns-in_ok-arrow
+pub returns-in_ok-arrow-in-Arrow : goal.returns-in_ok-arrow-in-Arrow
 unfolding item_after
-returns-in_ok-arrow c = search rules
+returns-in_ok-arrow-in-Arrow c = search rules

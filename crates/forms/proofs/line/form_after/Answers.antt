@@ -2,50 +2,50 @@ use Rattle.std.proofs.Common.{rules}
 use Rattle.forms.specs.Lines.{form_after}
 use Rattle.forms.proofs.line.form_after.Goals as goal
 
-pub returns-in_err-kind : goal.returns-in_err-kind
+pub returns-in_err-kind-in-Plan : goal.returns-in_err-kind-in-Plan
 unfolding form_after
-returns-in_err-kind c = search rules
+returns-in_err-kind-in-Plan c = search rules
 
-pub returns-in_err-line : goal.returns-in_err-line
+pub returns-in_err-line-in-Enter : goal.returns-in_err-line-in-Enter
 unfolding form_after
-returns-in_err-line c = search rules
+returns-in_err-line-in-Enter c = search rules
 
-pub returns-in_err-line-2 : goal.returns-in_err-line-2
+pub returns-in_err-line-in-Alter : goal.returns-in_err-line-in-Alter
 unfolding form_after
-returns-in_err-line-2 c = search rules
+returns-in_err-line-in-Alter c = search rules
 
-pub returns-in_err-line-3 : goal.returns-in_err-line-3
+pub returns-in_err-line-in-Strike : goal.returns-in_err-line-in-Strike
 unfolding form_after
-returns-in_err-line-3 c = search rules
+returns-in_err-line-in-Strike c = search rules
 
-pub returns-in_err-line-4 : goal.returns-in_err-line-4
+pub returns-in_err-line-in-Date : goal.returns-in_err-line-in-Date
 unfolding form_after
-returns-in_err-line-4 c = search rules
+returns-in_err-line-in-Date c = search rules
 
-pub returns-in_err-line-5 : goal.returns-in_err-line-5
+pub returns-in_err-line-in-Clear : goal.returns-in_err-line-in-Clear
 unfolding form_after
-returns-in_err-line-5 c = search rules
+returns-in_err-line-in-Clear c = search rules
 
-pub returns-in_ok-kind : goal.returns-in_ok-kind
+pub returns-in_ok-kind-in-Plan : goal.returns-in_ok-kind-in-Plan
 unfolding form_after
-returns-in_ok-kind c = search rules
+returns-in_ok-kind-in-Plan c = search rules
 
-pub returns-in_ok-line : goal.returns-in_ok-line
+pub returns-in_ok-line-in-Enter : goal.returns-in_ok-line-in-Enter
 unfolding form_after
-returns-in_ok-line c = search rules
+returns-in_ok-line-in-Enter c = search rules
 
-pub returns-in_ok-line-2 : goal.returns-in_ok-line-2
+pub returns-in_ok-line-in-Alter : goal.returns-in_ok-line-in-Alter
 unfolding form_after
-returns-in_ok-line-2 c = search rules
+returns-in_ok-line-in-Alter c = search rules
 
-pub returns-in_ok-line-3 : goal.returns-in_ok-line-3
+pub returns-in_ok-line-in-Strike : goal.returns-in_ok-line-in-Strike
 unfolding form_after
-returns-in_ok-line-3 c = search rules
+returns-in_ok-line-in-Strike c = search rules
 
-pub returns-in_ok-line-4 : goal.returns-in_ok-line-4
+pub returns-in_ok-line-in-Date : goal.returns-in_ok-line-in-Date
 unfolding form_after
-returns-in_ok-line-4 c = search rules
+returns-in_ok-line-in-Date c = search rules
 
-pub returns-in_ok-line-5 : goal.returns-in_ok-line-5
+pub returns-in_ok-line-in-Clear : goal.returns-in_ok-line-in-Clear
 unfolding form_after
-returns-in_ok-line-5 c = search rules
+returns-in_ok-line-in-Clear c = search rules

@@ -21,7 +21,7 @@ returns-in-None g c =
         ring = plan.ring;
         right = subst (λ x. Right (network_of x) plan.times plan.ring) over c.issue-plan.ensures.right;
         forms = done.forms;
-        sheet = subst (λ x. SheetOf g.Entry.Spanned.spanOf x plan.times plan.ring done.forms) same done.sheet;
+        sheet = subst (λ x. SheetOf g.B.Entry.Spanned.span_of x plan.times plan.ring done.forms) same done.sheet;
         is = refl;
       });
       poured = record { told = done.told; held = done.bytes };

@@ -15,7 +15,7 @@ use Rattle.play.proofs.play.play.Goals as goal
 pub loop-call-preserved : goal.loop-call-preserved
 loop-call-preserved g c =
     let meaning = g.B.Book.meaning in
-    let spanOf = g.Entry.Spanned.spanOf in
+    let span_of = g.B.Entry.Spanned.span_of in
     let calls = c.args.calls.now in
     let i = c.loop-call.call-index in
     let before = meaning (book_in c.loop-call.stage) in
@@ -23,12 +23,12 @@ loop-call-preserved g c =
     let inside : i < length calls = omega arith in
     let call = get_or calls i Issue in
     let read : c.call-item.result ≡ call = c.call-item.is ∙ get_or_default calls i _ Issue inside in
-    let heardNow : meaning (book_in c.heard-stage.result) ≡ hears before (heard_as call) = c.heard-stage.ensures.after ∙ ap (λ x. hears before (heard_as x)) read in
+    let heard_now : meaning (book_in c.heard-stage.result) ≡ hears before (heard_as call) = c.heard-stage.ensures.after ∙ ap (λ x. hears before (heard_as x)) read in
     let more : hears_all before (drop i calls) ≡ hears_all (hears before (heard_as call)) left = at_drop_more (hears_all before) calls i Issue inside in
-    let same = ap (λ m. hears_all m left) heardNow ∙ sym more ∙ c.loop-call.invariant.0 in
-    let asked : (end : List ℕ) → AllAsked spanOf (meaning (book_in c.heard-stage.result)) left c.heard-stage.new.bytes end → AllAsked spanOf (meaning c.over.result.book) calls c.args.bytes.now end =
-    λ end rest. c.loop-call.invariant.1.1 end (subst (λ (cs : List (PlanCall _)). AllAsked spanOf before cs c.loop-call.bytes end) (sym (drop_more calls i Issue inside))
-    (record { bytes = c.heard-stage.new.bytes; first = subst (λ x. Asked spanOf before x c.loop-call.bytes c.heard-stage.new.bytes) read c.heard-stage.ensures.asked; rest = subst (λ m. AllAsked spanOf m left c.heard-stage.new.bytes end) heardNow rest })) in
+    let same = ap (λ m. hears_all m left) heard_now ∙ sym more ∙ c.loop-call.invariant.0 in
+    let asked : (end : List ℕ) → AllAsked span_of (meaning (book_in c.heard-stage.result)) left c.heard-stage.new.bytes end → AllAsked span_of (meaning c.over.result.book) calls c.args.bytes.now end =
+    λ end rest. c.loop-call.invariant.1.1 end (subst (λ (cs : List (PlanCall _)). AllAsked span_of before cs c.loop-call.bytes end) (sym (drop_more calls i Issue inside))
+    (record { bytes = c.heard-stage.new.bytes; first = subst (λ x. Asked span_of before x c.loop-call.bytes c.heard-stage.new.bytes) read c.heard-stage.ensures.asked; rest = subst (λ m. AllAsked span_of m left c.heard-stage.new.bytes end) heard_now rest })) in
     (same, (c.heard-stage.ensures.upright, asked))
 
 pub returns : goal.returns
@@ -46,5 +46,5 @@ returns g c =
       right = subst (λ m. Right (network_of m) c.issued.result.times c.issued.result.ring) whole c.issued.ensures.right;
       past = past;
       heard = λ r cs led. subst (λ m. Right (network_of m) c.issued.result.times c.issued.result.ring) (past r cs led) c.issued.ensures.right;
-      sheets = subst (λ b. AllAsked g.Entry.Spanned.spanOf (meaning b) calls c.args.bytes.now c.loop-call.bytes) c.over.ensures (c.loop-call.invariant.1.1 c.loop-call.bytes (subst (λ (cs : List (PlanCall _)). AllAsked g.Entry.Spanned.spanOf (meaning (book_in c.loop-call.stage)) cs c.loop-call.bytes c.loop-call.bytes) (sym (drop_all c.loop-call.call-index calls (omega arith))) refl));
+      sheets = subst (λ b. AllAsked g.B.Entry.Spanned.span_of (meaning b) calls c.args.bytes.now c.loop-call.bytes) c.over.ensures (c.loop-call.invariant.1.1 c.loop-call.bytes (subst (λ (cs : List (PlanCall _)). AllAsked g.B.Entry.Spanned.span_of (meaning (book_in c.loop-call.stage)) cs c.loop-call.bytes c.loop-call.bytes) (sym (drop_all c.loop-call.call-index calls (omega arith))) refl));
     }

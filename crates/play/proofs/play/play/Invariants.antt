@@ -9,4 +9,4 @@ abbrev pub invariant-loop-call : goal.invariant-loop-call
 invariant-loop-call g l =
     (hears_all (g.B.Book.meaning (book_in l.stage)) (drop l.call-index l.calls) ≡ hears_all (g.B.Book.meaning (book_in l.initial.stage)) l.calls)
     × (Upright g.B.Book.meaning l.stage
-    × ((end : List ℕ) → AllAsked g.Entry.Spanned.spanOf (g.B.Book.meaning (book_in l.stage)) (drop l.call-index l.calls) l.bytes end → AllAsked g.Entry.Spanned.spanOf (g.B.Book.meaning (book_in l.initial.stage)) l.calls l.initial.bytes end))
+    × ((end : List ℕ) → AllAsked g.B.Entry.Spanned.span_of (g.B.Book.meaning (book_in l.stage)) (drop l.call-index l.calls) l.bytes end → AllAsked g.B.Entry.Spanned.span_of (g.B.Book.meaning (book_in l.initial.stage)) l.calls l.initial.bytes end))

@@ -13,12 +13,12 @@ returns-then-fits g c =
     let rooms = c.rooms_of-rooms.result in
     let m = g.B.Book.meaning plan.book in
     let lawful : Lawful (network_of m) = subst Lawful (g.met.B.Book.made plan.book) (g.met.B.Network.lawful plan.book) in
-    let whole = sheet_bytes g.Entry.Spanned.spanOf g.B.Book.meaning plan rooms in
+    let whole = sheet_bytes g.B.Entry.Spanned.span_of g.B.Book.meaning plan rooms in
     let test : leb (length whole) (length c.args.out.now) ≡ true = search rules in
     let count = c.written.ensures.count in
     record {
-      forms = left_of g.Entry.Spanned.spanOf g.B.Book.meaning plan rooms at.Head;
-      sheet = sheet_right g.Entry.Spanned.spanOf m lawful plan.times plan.ring rooms.alone.days rooms.both.days c.rooms_of-rooms.ensures;
+      forms = left_of g.B.Entry.Spanned.span_of g.B.Book.meaning plan rooms at.Head;
+      sheet = sheet_right g.B.Entry.Spanned.span_of m lawful plan.times plan.ring rooms.alone.days rooms.both.days c.rooms_of-rooms.ensures;
       told = ap Ok count ∙ sym (cond-true _ _ _ test);
       bytes = c.written.ensures.bytes ∙ ap (λ n. whole ++ drop n c.args.out.now) count ∙ sym (cond-true _ _ _ test);
     }
@@ -29,11 +29,11 @@ returns-else-fits g c =
     let rooms = c.rooms_of-rooms.result in
     let m = g.B.Book.meaning plan.book in
     let lawful : Lawful (network_of m) = subst Lawful (g.met.B.Book.made plan.book) (g.met.B.Network.lawful plan.book) in
-    let whole = sheet_bytes g.Entry.Spanned.spanOf g.B.Book.meaning plan rooms in
+    let whole = sheet_bytes g.B.Entry.Spanned.span_of g.B.Book.meaning plan rooms in
     let test : leb (length whole) (length c.args.out.now) ≡ false = search rules in
     record {
-      forms = left_of g.Entry.Spanned.spanOf g.B.Book.meaning plan rooms at.Head;
-      sheet = sheet_right g.Entry.Spanned.spanOf m lawful plan.times plan.ring rooms.alone.days rooms.both.days c.rooms_of-rooms.ensures;
+      forms = left_of g.B.Entry.Spanned.span_of g.B.Book.meaning plan rooms at.Head;
+      sheet = sheet_right g.B.Entry.Spanned.span_of m lawful plan.times plan.ring rooms.alone.days rooms.both.days c.rooms_of-rooms.ensures;
       told = sym (cond-false _ _ _ test);
       bytes = sym (cond-false _ _ _ test);
     }

@@ -10,8 +10,8 @@ pub overflow_add-end : goal.overflow_add-end
 overflow_add-end g c =
     let plan = c.args.plan.now in
     let rooms = c.args.rooms.now in
-    let rest = bytes_left g.Entry.Spanned.spanOf g.B.Book.meaning plan rooms c.in-Some.stride.rest in
-    let whole = sheet_bytes g.Entry.Spanned.spanOf g.B.Book.meaning plan rooms in
+    let rest = bytes_left g.B.Entry.Spanned.span_of g.B.Book.meaning plan rooms c.in-Some.stride.rest in
+    let whole = sheet_bytes g.B.Entry.Spanned.span_of g.B.Book.meaning plan rooms in
     let xs = shown c.in-Some.stride.form in
     let more : take c.loop-stride.at c.loop-stride.out ++ (xs ++ rest) ≡ whole = ap (λ fs. take c.loop-stride.at c.loop-stride.out ++ rendered fs) (sym c.in-Some.ensures.0) ∙ c.loop-stride.invariant.1.1.0 in
     let room = room_left c.loop-stride.out c.loop-stride.at c.loop-stride.invariant.1.0.1 (xs ++ rest) whole more in
@@ -25,8 +25,8 @@ pub slice_bounds-copy_from_slice-end : goal.slice_bounds-copy_from_slice-end
 slice_bounds-copy_from_slice-end g c =
     let plan = c.args.plan.now in
     let rooms = c.args.rooms.now in
-    let rest = bytes_left g.Entry.Spanned.spanOf g.B.Book.meaning plan rooms c.in-Some.stride.rest in
-    let whole = sheet_bytes g.Entry.Spanned.spanOf g.B.Book.meaning plan rooms in
+    let rest = bytes_left g.B.Entry.Spanned.span_of g.B.Book.meaning plan rooms c.in-Some.stride.rest in
+    let whole = sheet_bytes g.B.Entry.Spanned.span_of g.B.Book.meaning plan rooms in
     let xs = shown c.in-Some.stride.form in
     let more : take c.loop-stride.at c.loop-stride.out ++ (xs ++ rest) ≡ whole = ap (λ fs. take c.loop-stride.at c.loop-stride.out ++ rendered fs) (sym c.in-Some.ensures.0) ∙ c.loop-stride.invariant.1.1.0 in
     let room = room_left c.loop-stride.out c.loop-stride.at c.loop-stride.invariant.1.0.1 (xs ++ rest) whole more in
@@ -40,8 +40,8 @@ pub loop-stride-preserved : goal.loop-stride-preserved
 loop-stride-preserved g c =
     let plan = c.args.plan.now in
     let rooms = c.args.rooms.now in
-    let rest = bytes_left g.Entry.Spanned.spanOf g.B.Book.meaning plan rooms c.in-Some.stride.rest in
-    let whole = sheet_bytes g.Entry.Spanned.spanOf g.B.Book.meaning plan rooms in
+    let rest = bytes_left g.B.Entry.Spanned.span_of g.B.Book.meaning plan rooms c.in-Some.stride.rest in
+    let whole = sheet_bytes g.B.Entry.Spanned.span_of g.B.Book.meaning plan rooms in
     let xs = c.bytes-bytes.result.now in
     let form : xs ≡ shown c.in-Some.stride.form = c.bytes-bytes.ensures ∙ c.text-text.ensures in
     let more : take c.loop-stride.at c.loop-stride.out ++ (xs ++ rest) ≡ whole =
@@ -53,7 +53,7 @@ pub returns : goal.returns
 returns g c =
     let plan = c.args.plan.now in
     let rooms = c.args.rooms.now in
-    let whole = sheet_bytes g.Entry.Spanned.spanOf g.B.Book.meaning plan rooms in
+    let whole = sheet_bytes g.B.Entry.Spanned.span_of g.B.Book.meaning plan rooms in
     let done : take c.loop-stride.at c.loop-stride.out ++ [] ≡ whole = ap (λ fs. take c.loop-stride.at c.loop-stride.out ++ rendered fs) (sym c.in_default.ensures) ∙ c.loop-stride.invariant.1.1.0 in
     let size = room_left c.loop-stride.out c.loop-stride.at c.loop-stride.invariant.1.0.1 [] whole done in
     record {

@@ -5,10 +5,10 @@ use Rattle.sheet.proofs.sheet.written.Given as goal
 -- what is written and what is left are the whole, and past it nothing has changed
 abbrev pub invariant-loop-stride : goal.invariant-loop-stride
 invariant-loop-stride g l =
-    ReadyAt g.Entry.Spanned.spanOf g.B.Book.meaning l.plan l.rooms l.walk
+    ReadyAt g.B.Entry.Spanned.span_of g.B.Book.meaning l.plan l.rooms l.walk
     × (((length l.out ≡ length l.initial.out) × (l.at ≤ length l.out))
-    × ((take l.at l.out ++ bytes_left g.Entry.Spanned.spanOf g.B.Book.meaning l.plan l.rooms l.walk ≡ sheet_bytes g.Entry.Spanned.spanOf g.B.Book.meaning l.plan l.rooms)
+    × ((take l.at l.out ++ bytes_left g.B.Entry.Spanned.span_of g.B.Book.meaning l.plan l.rooms l.walk ≡ sheet_bytes g.B.Entry.Spanned.span_of g.B.Book.meaning l.plan l.rooms)
     × (drop l.at l.out ≡ drop l.at l.initial.out)))
 
 abbrev pub decreases-loop-stride : goal.decreases-loop-stride
-decreases-loop-stride g l = length (left_of g.Entry.Spanned.spanOf g.B.Book.meaning l.plan l.rooms l.walk)
+decreases-loop-stride g l = length (left_of g.B.Entry.Spanned.span_of g.B.Book.meaning l.plan l.rooms l.walk)

@@ -7,5 +7,5 @@ use Rattle.sheet.proofs.walk.next_row.Given as goal
 abbrev pub invariant-loop-line : goal.invariant-loop-line
 invariant-loop-line g l =
     let m = g.B.Book.meaning l.plan.book in
-    let rows = rows_from l.plan.times l.plan.ring l.rooms.alone.days l.rooms.both.days (spans_of g.Entry.Spanned.spanOf m) in
+    let rows = rows_from l.plan.times l.plan.ring l.rooms.alone.days l.rooms.both.days (spans_of g.B.Entry.Spanned.span_of m) in
     (l.first ≤ l.line) × (rows l.first (m.rule.lines + 1 - l.first) ≡ rows l.line (m.rule.lines + 1 - l.line))

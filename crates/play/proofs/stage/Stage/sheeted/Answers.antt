@@ -17,6 +17,6 @@ returns g c =
         ring = plan.ring;
         right = subst (λ x. Right (network_of x) plan.times plan.ring) m c.issued-plan.ensures.right;
         answer = c.sheet.result;
-        delivered = subst (λ x. Delivered g.Entry.Spanned.spanOf x plan.times plan.ring c.args.bytes.now c.sheet.new.out c.sheet.result) m c.sheet.ensures;
+        delivered = subst (λ x. Delivered g.B.Entry.Spanned.span_of x plan.times plan.ring c.args.bytes.now c.sheet.new.out c.sheet.result) m c.sheet.ensures;
       };
     }

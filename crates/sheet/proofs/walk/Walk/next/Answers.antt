@@ -8,5 +8,5 @@ returns-in-Step g c =
     let plan = c.args.plan.now in
     let rooms = c.args.rooms.now in
     let m = g.B.Book.meaning plan.book in
-    subst (λ w. StrodeFrom g.Entry.Spanned.spanOf g.B.Book.meaning plan rooms w (Some c.after_steps.result)) (sym c.in-Step.is)
-    (c.after_steps.ensures rooms.alone.days rooms.both.days (spans_of g.Entry.Spanned.spanOf m) m.rule.lines)
+    subst (λ w. StrodeFrom g.B.Entry.Spanned.span_of g.B.Book.meaning plan rooms w (Some c.after_steps.result)) (sym c.in-Step.is)
+    (c.after_steps.ensures rooms.alone.days rooms.both.days (spans_of g.B.Entry.Spanned.span_of m) m.rule.lines)
