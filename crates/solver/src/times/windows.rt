@@ -2,10 +2,9 @@
 
 ghost use Rattle.std.specs.Prelude.{◌≡◌, ℕ, ◌≤◌, length as size};
 ghost use Rattle.network.specs.Meanings.{Meaning};
-ghost use Rattle.network.specs.Schedules.{greatest};
+ghost use Rattle.network.specs.Schedules.{greatest, Sound};
 ghost use Rattle.solver.specs.Arcs.{Gathered};
 ghost use Rattle.solver.specs.Rising.{time_at, Keeps, Rising};
-ghost use Rattle.solver.specs.Solutions.{Windows};
 
 use crate::arcs::Arcs;
 use crate::fall::Fall;
@@ -30,7 +29,8 @@ pub(crate) fn windows(arcs: &Arcs, order: &Order, rise: &Rise) -> Times
     requires first { time_at rise.now.times 0 ≡ 0 }
     requires bound { greatest (time_at rise.now.times) arcs.now.events ≤ 204800000 }
     requires keeps { Keeps arcs.now.arcs arcs.now.count arcs.now.events (time_at rise.now.times) }
-    ensures { (m : Meaning) → Gathered m arcs.now.arcs arcs.now.count → m.events ≡ arcs.now.events → Windows m result }
+    ensures events { result.events ≡ arcs.now.events }
+    ensures sound { (m : Meaning) → Gathered m arcs.now.arcs arcs.now.count → m.events ≡ arcs.now.events → Sound m (time_at result.earliest) (time_at result.latest) result.length }
 {
     let earliest = rise.times;
     let length = longest(&earliest, arcs.events);

@@ -1,4 +1,4 @@
-use Rattle.std.proofs.Common.{◌≡◌, ℕ, ◌≤◌, sym, arith}
+use Rattle.std.proofs.Common.{◌≡◌, ℕ, ◌≤◌, refl, arith}
 use Rattle.network.proofs.Lengths.{greatest_least}
 use Rattle.solver.specs.Rising.{time_at}
 use Rattle.solver.proofs.Sounding.{under_due, due_low, rest_sound}
@@ -34,13 +34,13 @@ invariant_of-result c =
     }
 
 pub returns : goal.returns
-returns c m all same =
+returns c =
     let arcs = c.args.arcs.now in
     let rise = c.args.rise.now in
     let T = c.longest-length.result in
     let small = arcs.small in
     record {
-      events = sym same;
-      sound = rest_sound m arcs.arcs arcs.count arcs.events all same (time_at rise.times) (time_at rise.parents) c.requires.rising c.requires.first c.requires.keeps
+      events = refl;
+      sound = λ m all same. rest_sound m arcs.arcs arcs.count arcs.events all same (time_at rise.times) (time_at rise.parents) c.requires.rising c.requires.first c.requires.keeps
           c.due.result c.settle.new.self.times c.settle.ensures T c.longest-length.ensures c.due.ensures.first (λ e low high. c.due.ensures.others e low (omega arith));
     }
