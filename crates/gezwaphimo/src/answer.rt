@@ -80,11 +80,3 @@ pub fn answer(forms: &[u8], answer: &mut [u8]) -> i64
         Err(_) => -14,
     }
 }
-
-/// The same call, for C.
-#[unsafe(no_mangle)]
-pub extern "C" fn gezwaphimo_answer(forms: &[u8], answer: &mut [u8]) -> i64
-    ensures { Answered forms.now answer.old answer.new result }
-{
-    self::answer(forms, answer)
-}

@@ -92,7 +92,7 @@ pub fn run(rt: &HostRuntime, table: &[u8]) -> io::Result<()> {
         let end = line_end(table, from);
         let line = table.get(from..end).unwrap_or(&[]);
         case.take(line)?;
-        if line == b"=" {
+        if line == b"=".as_slice() {
             cases = cases.saturating_add(1);
             if is_right(&case.text, &case.expected) {
                 right = right.saturating_add(1);
