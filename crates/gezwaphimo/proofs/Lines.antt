@@ -17,7 +17,7 @@ use Rattle.forms.specs.declared.reader.Next.TheVariants as next
 use Rattle.forms.specs.Texts.{Ends, Reads}
 use Rattle.book.specs.declared.refusal.Layer.TheVariants.{Text}
 use Rattle.sheet_forms.specs.Shown.{refused_text}
-use Rattle.gezwaphimo.specs.Texts.{spelled_all, Done, Carried, Ending, no_form, Heard}
+use Rattle.gezwaphimo.specs.Texts.{spelled_all, Carried, Ending, no_form, Heard}
 
 module _ {E : Type 0} (span_of : E → ℕ → Option Span) (entry_of : Item → Option E) (event_of : Point → Option ℕ) where
   -- nothing is carried out, and the text ends as it stands

@@ -1,10 +1,10 @@
 -- The rooms of an activity's events yield its free float. Assumes nothing.
-use Rattle.std.proofs.Common.{◌≡◌, ℕ, ◌+◌, ◌-◌, ◌*◌, ◌/◌, ◌<◌, ◌≤◌, min, Bool, true, false, cond, not, ◌||◌, eqb, ◌⊎◌, List, get_or, pos, ◌+ℤ◌, ◌≤ℤ◌, Some, None, sym, refl, ap, ◌∙◌, subst, inl, inr, ⊎_elim, arith}
+use Rattle.std.proofs.Common.{◌≡◌, ℕ, ◌+◌, ◌<◌, ◌≤◌, min, true, false, not, eqb, ◌⊎◌, List, get_or, Some, sym, refl, ap, ◌∙◌, subst, inl, inr, ⊎_elim, arith}
 use Rattle.std.proofs.lemmas.Int.{ints}
 use Rattle.std.proofs.lemmas.Bool.{cases_Bool, cases_eq, cases_lt, cond-true, cond-false, eqb-true, eqb-false, eq-eqb, ne_eqb, or_cases, or_left, or_right, or_from}
 use Rattle.network.specs.declared.gap.Gap.{Gap}
 use Rattle.network.specs.Meanings.{Meaning, Lawful}
-use Rattle.network.specs.Schedules.{Schedule, greatest, length_of}
+use Rattle.network.specs.Schedules.{Schedule, length_of}
 use Rattle.network.proofs.Lengths.{greatest_bounds, greatest_least, greatest_grows}
 use Rattle.book.proofs.Options.{none_is_not}
 use Rattle.activity.specs.Activities.{start_of, finish_of}

@@ -1,5 +1,5 @@
 -- The forms of the walk are the sheet. Assumes nothing.
-use Rattle.std.proofs.Common.{◌≡◌, ℕ, zero, suc, ◌+◌, ◌≤◌, List, [], ◌∷◌, ◌++◌, map, length, Some, None, Option, refl, ap, arith, MatchOption}
+use Rattle.std.proofs.Common.{◌≡◌, ℕ, zero, suc, ◌+◌, List, [], ◌∷◌, ◌++◌, map, length, Some, None, Option, refl, ap, arith, MatchOption}
 use Rattle.network.specs.Meanings.{Meaning, Lawful}
 use Rattle.book.specs.Rules.{BookMeaning, network_of}
 use Rattle.solver.specs.declared.ring.Ring.{Ring}

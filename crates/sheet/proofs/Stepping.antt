@@ -1,5 +1,5 @@
 -- The steps of a ring, one after another. Assumes nothing.
-use Rattle.std.proofs.Common.{◌≡◌, ℕ, ◌+◌, ◌-◌, ◌<◌, ◌≤◌, Bool, true, false, cond, ◌&&◌, leb, List, [], ◌∷◌, ◌++◌, map, length, get_or, drop, Some, None, Ok, Err, Option, Result, sym, refl, ap, ◌∙◌, ⊎_elim, arith}
+use Rattle.std.proofs.Common.{◌≡◌, ℕ, ◌+◌, ◌-◌, ◌<◌, ◌≤◌, true, false, ◌&&◌, leb, List, [], ◌∷◌, ◌++◌, map, length, get_or, drop, Some, None, Ok, Err, Option, Result, sym, ap, ◌∙◌, ⊎_elim, arith}
 use Rattle.std.proofs.lemmas.List.{at_drop_more, at_drop_all}
 use Rattle.std.proofs.lemmas.Bool.{cases_Bool, and_from, and_parts, le-leb, leb-true, cond-true, cond-false, cases_lt}
 use Rattle.network.specs.declared.gap.Step.{Step}
@@ -10,7 +10,6 @@ use Rattle.solver.specs.declared.ring.Ring.{Ring}
 use Rattle.solver.specs.declared.times.Times.{Times}
 use Rattle.solver.specs.RingSteps.{ring_steps, floor_to}
 use Rattle.solver.proofs.Climbing.{last_first_length}
-use Rattle.sheet_forms.specs.declared.form.SheetForm.{SheetForm}
 use Rattle.sheet_forms.specs.declared.form.SheetForm.TheVariants as form
 use Rattle.sheet.specs.Sheets.{owned}
 use Rattle.sheet.specs.Walking.{steps_left}

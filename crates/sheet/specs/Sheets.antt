@@ -15,7 +15,6 @@ use Rattle.solver.specs.declared.ring.Ring.{Ring}
 use Rattle.solver.specs.declared.times.Times.{Times}
 use Rattle.solver.specs.RingSteps.{ring_steps}
 use Rattle.sheet_forms.specs.declared.form.Row.{Row}
-use Rattle.sheet_forms.specs.declared.form.OwnedStep.{OwnedStep}
 use Rattle.sheet_forms.specs.declared.form.SheetForm.{SheetForm}
 use Rattle.sheet_forms.specs.declared.form.SheetForm.TheVariants as form
 use Rattle.sheet_forms.specs.Shown.{shown}

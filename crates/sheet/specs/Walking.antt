@@ -4,7 +4,6 @@
 --     rows_from ..        the rows of the n lines from p on
 --     left ..            the forms that are left at a place of the walk
 use Rattle.std.specs.Prelude.{ℕ, zero, suc, ◌+◌, ◌-◌, ◌≤◌, min, List, [], ◌∷◌, ◌++◌, map, length, drop, Some, None, Option, slice_index}
-use Rattle.network.specs.declared.gap.Step.{Step}
 use Rattle.network.specs.Meanings.{Meaning}
 use Rattle.activity.specs.Activities.{start_of, finish_of}
 use Rattle.solver.specs.declared.ring.Ring.{Ring}

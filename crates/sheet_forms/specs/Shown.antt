@@ -11,7 +11,6 @@ use Rattle.sheet_forms.specs.declared.form.OwnedStep.{OwnedStep}
 use Rattle.book.specs.declared.refusal.Layer.{Layer}
 use Rattle.book.specs.declared.refusal.Layer.TheVariants as by
 use Rattle.book.specs.Refusals.{number}
-use Rattle.sheet_forms.specs.declared.form.TextRefusal.{TextRefusal}
 use Rattle.sheet_forms.specs.declared.form.SheetForm.{SheetForm}
 use Rattle.sheet_forms.specs.declared.form.SheetForm.TheVariants.{Length, Line, Contradiction, Step, End, Refused}
 

@@ -9,7 +9,7 @@ use Rattle.forms.specs.declared.form.PlanKind.TheVariants as plan
 use Rattle.forms.specs.Texts.{left, Reads}
 use Rattle.sheet_forms.specs.Shown.{refused_text}
 use Rattle.gezwaphimo.specs.Kinds.{kind_of}
-use Rattle.gezwaphimo.specs.Texts.{AnswerTo, no_plan, activities, arrows, Heard, Poured}
+use Rattle.gezwaphimo.specs.Texts.{no_plan, activities, arrows, Heard, Poured}
 use Rattle.gezwaphimo.proofs.Firsts.{begun, not_begun}
 use Rattle.gezwaphimo.proofs.answer.answered_short.Goals as goal
 

@@ -1,8 +1,7 @@
-use Rattle.std.proofs.Common.{◌≡◌, Some, None, sym, refl, ap, ◌∙◌, subst}
+use Rattle.std.proofs.Common.{refl, ap, ◌∙◌, subst}
 use Rattle.book.specs.Rules.{network_of}
 use Rattle.plan.specs.Issues.{Right}
 use Rattle.sheet.specs.Sheets.{SheetOf, rendered}
-use Rattle.gezwaphimo.specs.Texts.{Sheeted, Heard, Poured}
 use Rattle.gezwaphimo.proofs.finish.finish.Goals as goal
 
 pub returns-in-Some : goal.returns-in-Some

@@ -1,12 +1,9 @@
-use Rattle.std.proofs.Common.{◌≡◌, ℕ, ◌+◌, ◌<◌, ◌≤◌, List, ◌++◌, length, Some, None, sym, refl, ap, ◌∙◌, subst, arith, rules}
-use Rattle.book.specs.Calls.{refusal}
+use Rattle.std.proofs.Common.{◌<◌, length, sym, refl, subst, arith}
 use Rattle.book.specs.Refusals.{number}
-use Rattle.forms.specs.Spelling.{spelled, Short}
 use Rattle.forms.specs.Texts.{left}
 use Rattle.sheet_forms.specs.Shown.{refused_text}
 use Rattle.gezwaphimo.specs.Words.{call_of}
-use Rattle.gezwaphimo.specs.Texts.{Ending, no_call, refused, Heard}
-use Rattle.gezwaphimo.specs.Hearing.{SaidBy}
+use Rattle.gezwaphimo.specs.Texts.{no_call, refused, Heard}
 use Rattle.gezwaphimo.proofs.Lines.{heard_none, heard_more, ends_no_form, said_none, said_err, said_ok}
 use Rattle.gezwaphimo.proofs.hear.heard_all.Goals as goal
 

@@ -1,4 +1,4 @@
-use Rattle.std.proofs.Common.{◌≡◌, ℕ, ◌+◌, ◌≤◌, List, length}
+use Rattle.std.proofs.Common.{ℕ, ◌+◌, ◌≤◌, List, length}
 use Rattle.forms.specs.Texts.{left}
 use Rattle.gezwaphimo.specs.Texts.{Heard}
 use Rattle.gezwaphimo.proofs.hear.heard_all.Given as goal

@@ -1,9 +1,9 @@
-use Rattle.std.proofs.Common.{◌≡◌, ◌+◌, ◌<◌, length, sym, ap, ◌∙◌, arith}
+use Rattle.std.proofs.Common.{length, sym, ap, ◌∙◌, arith}
 use Rattle.std.proofs.lemmas.List.{length-append}
-use Rattle.std.proofs.lemmas.Bool.{lt-leb, le-leb}
+use Rattle.std.proofs.lemmas.Bool.{lt-leb}
 use Rattle.sheet_forms.specs.Shown.{shown}
 use Rattle.sheet.specs.Sheets.{rendered}
-use Rattle.sheet.specs.Strides.{left_of, bytes_left, sheet_bytes}
+use Rattle.sheet.specs.Strides.{bytes_left, sheet_bytes}
 use Rattle.sheet.proofs.sheet.fits.Goals as goal
 
 pub returns-then-size-free : goal.returns-then-size-free

@@ -1,8 +1,8 @@
-use Rattle.std.proofs.Common.{◌≡◌, ◌+◌, ◌-◌, ◌<◌, ◌≤◌, [], ◌++◌, length, take, drop, sym, ap, ◌∙◌, arith, rules}
+use Rattle.std.proofs.Common.{◌≡◌, ◌+◌, ◌-◌, ◌<◌, [], ◌++◌, length, take, sym, ap, ◌∙◌, arith, rules}
 use Rattle.std.proofs.lemmas.List.{length-append}
 use Rattle.sheet_forms.specs.Shown.{shown}
 use Rattle.sheet.specs.Sheets.{rendered}
-use Rattle.sheet.specs.Strides.{left_of, bytes_left, sheet_bytes}
+use Rattle.sheet.specs.Strides.{bytes_left, sheet_bytes}
 use Rattle.sheet.proofs.Writing.{room_left, all_written, form_written}
 use Rattle.sheet.proofs.sheet.written.Goals as goal
 

@@ -2,7 +2,6 @@ use Rattle.std.proofs.Common.{◌≡◌, ◌+◌, ◌∷◌, Ok, Err, sym, ap, �
 use Rattle.book.specs.Rules.{network_of}
 use Rattle.plan.specs.Readings.{step_read}
 use Rattle.sheet_forms.specs.declared.form.SheetForm.TheVariants as form
-use Rattle.sheet.specs.Sheets.{owned}
 use Rattle.sheet.specs.Walking.{steps_left}
 use Rattle.sheet.proofs.Stepping.{few_steps, step_there, step_past}
 use Rattle.sheet.proofs.stride.after_steps.Goals as goal

@@ -1,7 +1,7 @@
 use Rattle.std.proofs.Common.{◌≡◌, ◌+◌, ◌-◌, ◌≤◌, ◌∷◌, Some, None, sym, ap, ◌∙◌, arith, rules}
 use Rattle.sheet.specs.Sheets.{spans_of}
 use Rattle.sheet.specs.Walking.{row_of, rows_from}
-use Rattle.sheet.proofs.Rowing.{rows_none, rows_some, rows_past, row_line}
+use Rattle.sheet.proofs.Rowing.{rows_none, rows_some, row_line}
 use Rattle.sheet.proofs.walk.next_row.Goals as goal
 
 pub returns-in-Some : goal.returns-in-Some

@@ -1,4 +1,4 @@
-use Rattle.std.proofs.Common.{◌^◌, ◌<◌, ◌≤◌, length, decimal, sym, refl, append-nil, arith, rules}
+use Rattle.std.proofs.Common.{◌^◌, ◌<◌, ◌≤◌, decimal, sym, refl, append-nil, arith, rules}
 use Rattle.std.proofs.lemmas.Fmt.{length-decimal-le, decimal_nonempty}
 use Rattle.sheet_forms.proofs.Digits.{last_digit, shorter, first_digit}
 use Rattle.sheet_forms.proofs.figures.in_figures.Goals as goal

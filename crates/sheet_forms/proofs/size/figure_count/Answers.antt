@@ -1,4 +1,4 @@
-use Rattle.std.proofs.Common.{◌≡◌, ◌/◌, ◌^◌, ◌<◌, ◌≤◌, length, decimal, ap, arith, rules}
+use Rattle.std.proofs.Common.{◌/◌, ◌^◌, ◌<◌, ◌≤◌, length, ap, arith, rules}
 use Rattle.std.proofs.lemmas.Fmt.{length-decimal-le, decimal_nonempty, decimal_digit}
 use Rattle.sheet_forms.proofs.Digits.{shorter}
 use Rattle.sheet_forms.proofs.size.figure_count.Goals as goal

@@ -1,6 +1,5 @@
-use Rattle.std.proofs.Common.{◌≡◌, [], ◌∷◌, ◌++◌, length, codes, decimal, ap, arith, rules}
+use Rattle.std.proofs.Common.{◌≡◌, ◌∷◌, ◌++◌, length, codes, decimal, ap, arith, rules}
 use Rattle.std.proofs.lemmas.List.{length-append}
-use Rattle.std.specs.Fmt.{signed_decimal}
 use Rattle.book.specs.Refusals.{number}
 use Rattle.sheet_forms.specs.Shown.{refuser}
 use Rattle.sheet_forms.proofs.size.refusal_size.Goals as goal

@@ -1,6 +1,5 @@
-use Rattle.std.proofs.Common.{[], ◌∷◌, ◌++◌, length, codes, decimal, arith, rules}
+use Rattle.std.proofs.Common.{◌++◌, codes, decimal, arith}
 use Rattle.std.proofs.lemmas.List.{length-append}
-use Rattle.std.specs.Fmt.{signed_decimal}
 use Rattle.sheet_forms.specs.Shown.{window_text, floats_text}
 use Rattle.sheet_forms.proofs.size.row_size.Goals as goal
 

@@ -1,6 +1,5 @@
-use Rattle.std.proofs.Common.{[], ◌∷◌, ◌++◌, length, decimal, arith, rules}
+use Rattle.std.proofs.Common.{◌∷◌, decimal, arith}
 use Rattle.std.proofs.lemmas.List.{length-append}
-use Rattle.std.specs.Fmt.{signed_decimal}
 use Rattle.sheet_forms.proofs.size.window_size.Goals as goal
 
 pub returns : goal.returns

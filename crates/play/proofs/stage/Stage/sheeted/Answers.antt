@@ -1,4 +1,4 @@
-use Rattle.std.proofs.Common.{◌≡◌, ap, subst}
+use Rattle.std.proofs.Common.{ap, subst}
 use Rattle.book.specs.Rules.{network_of}
 use Rattle.plan.specs.Issues.{Right}
 use Rattle.sheet.specs.Sheets.{Delivered}

@@ -1,6 +1,5 @@
-use Rattle.std.proofs.Common.{◌≡◌, ◌+◌, ◌<◌, ◌≤◌, length, pos, ◌-ℤ◌, Some, None, sym, ap, ◌∙◌, subst, inl, arith, rules}
+use Rattle.std.proofs.Common.{◌≡◌, ◌+◌, ◌<◌, pos, ◌-ℤ◌, Some, None, sym, ap, ◌∙◌, subst, inl, arith, rules}
 use Rattle.network.specs.Meanings.{Lawful, Bounded}
-use Rattle.network.specs.Schedules.{Schedule, length_of}
 use Rattle.book.specs.Rules.{network_of}
 use Rattle.sheet.specs.declared.span.Moves.TheVariants.{Finish, Both}
 use Rattle.sheet.specs.Rooms.{Rooms}

@@ -1,6 +1,5 @@
-use Rattle.std.proofs.Common.{◌≡◌, [], ◌∷◌, ◌++◌, length, codes, decimal, ap, arith, rules}
+use Rattle.std.proofs.Common.{◌≡◌, length, codes, decimal, ap, arith, rules}
 use Rattle.std.proofs.lemmas.List.{length-append}
-use Rattle.std.specs.Fmt.{signed_decimal}
 use Rattle.sheet_forms.specs.declared.form.SheetForm.TheVariants as form
 use Rattle.sheet_forms.specs.Shown.{shown}
 use Rattle.sheet_forms.proofs.form.SheetForm.size.Goals as goal

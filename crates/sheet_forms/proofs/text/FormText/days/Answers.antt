@@ -1,5 +1,4 @@
 use Rattle.std.proofs.Common.{◌≡◌, [], ◌∷◌, ◌++◌, pos, nat_abs, ◌≤ℤ◌, ◌<ℤ◌, decimal, sym, ap, ◌∙◌, append_assoc, arith, rules}
-use Rattle.std.specs.Fmt.{signed_decimal}
 use Rattle.sheet_forms.specs.Texts.{text_of}
 use Rattle.sheet_forms.proofs.Digits.{signed_below, signed_above}
 use Rattle.sheet_forms.proofs.text.FormText.days.Goals as goal

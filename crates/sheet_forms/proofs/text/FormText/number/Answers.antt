@@ -1,7 +1,6 @@
-use Rattle.std.proofs.Common.{◌≡◌, ◌++◌, length, take, drop, decimal, ap, ◌∙◌, arith, rules}
+use Rattle.std.proofs.Common.{rules}
 use Rattle.std.proofs.lemmas.Slice.{between_to_end}
 use Rattle.std.proofs.lemmas.List.{length-drop}
-use Rattle.sheet_forms.specs.Texts.{text_of}
 use Rattle.sheet_forms.proofs.text.FormText.number.Goals as goal
 
 pub returns : goal.returns
