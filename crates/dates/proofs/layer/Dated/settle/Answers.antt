@@ -1,6 +1,7 @@
-use Rattle.std.proofs.Common.{◌≡◌, ◌-◌, sym, ap, subst, rules}
+use Rattle.std.proofs.Common.{◌≡◌, ◌-◌, cond, refl, sym, ap, subst}
 use Rattle.book.specs.declared.refusal.Layer.TheVariants.{Dates}
-use Rattle.book.specs.Calls.{by, answered, with_date}
+use Rattle.book.specs.Calls.{by, put, answered, with_date}
+use Rattle.book.specs.Rules.{within}
 use Rattle.table.specs.Standing.{standing}
 use Rattle.dates.specs.Layered.{layered}
 use Rattle.dates.specs.LayeredLemmas.{put-stands}
@@ -14,8 +15,9 @@ returns-in-None g c =
     let q = c.args.q in
     let x = c.args.stands in
     let empty = c.in-None.is in
-    let same : q - c.dates.result ≡ q - m.rule.dates = search rules in
-    let stands = put-stands m own (standing c.put.new.self) q (q - c.dates.result) x same c.requires.above (c.requires.room empty) c.put.ensures in
+    let k = q - m.rule.dates in
+    let written : standing c.put.new.self ≡ cond (within k 64) (put own k x) own = cc in
+    let stands = put-stands m own (standing c.put.new.self) q k x refl c.requires.above (c.requires.room empty) written in
     record {
       answer = sym (ap (by Dates q) empty);
       after = subst (λ v. layered m (standing c.put.new.self) ≡ answered (by Dates q v) (with_date (layered m own) q x) (layered m own)) (sym empty) stands;
