@@ -8,12 +8,12 @@ use std::io::Read;
 
 mod damage;
 mod long;
-mod table;
+mod stored;
 
 fn main(rt: HostRuntime) -> io::Result<()> {
     let mut table = Vec::new(rt.alloc());
     rt.stdin().read_to_end(&mut table)?;
-    table::run(&rt, &table)?;
+    stored::run(&rt, &table)?;
     damage::run(&rt)?;
     long::run(&rt)
 }
