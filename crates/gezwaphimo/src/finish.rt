@@ -16,6 +16,7 @@ use sheet::spanned::Spanned;
 use sheet_forms::form::SheetForm;
 
 /// Says the rest of a text to a book, and writes the sheet of what they make, or the line of the first refusal.
+#[inline(never)]
 pub(crate) fn finish<B: Book + Drop>(
     start: B,
     rest: Reader,

@@ -26,6 +26,7 @@ fn at_rest(arcs: &Arcs, order: &Order, rise: &Rise) -> Solution
 }
 
 /// The earliest and the latest times of a network and its length, or a ring that shows that it has no schedule.
+#[inline(never)]
 pub fn solve<N: Network>(network: &N) -> Solution
     ensures { Solved (N.Network.network network.now) result }
 {

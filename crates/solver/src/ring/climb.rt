@@ -51,6 +51,7 @@ fn no_steps() -> [Step; 1024]
 impl Rise {
     /// The ring that comes of going from event `r` along the parents: back to `r`, or to an event that was never
     /// raised, which the floor reaches.
+    #[inline(never)]
     pub(crate) fn ring_from(&self, arcs: &Arcs, r: usize) -> Ring
         requires rising { Rising arcs.now.arcs arcs.now.count arcs.now.events (λ _. 0) (time_at self.now.times) (time_at self.now.parents) }
         requires inside { r ≤ arcs.now.events }
