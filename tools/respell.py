@@ -331,9 +331,11 @@ pointAt point_at
 pointKindAt point_kind_at
 pointKindOf point_kind_of
 pointKindWord point_kind_word
+put-before put_before
 put-below put_below
 put-none put_none
 put-own put_own
+put-stands put_stands
 raise-keeps raise_keeps
 reached-low reached_low
 refused-4-or-5 refused_4_or_5

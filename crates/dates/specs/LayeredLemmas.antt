@@ -102,8 +102,8 @@ module _ {E : Type 0} (m : BookMeaning E) (own : ℕ → Option Date) where
   cleared_below n q h e = ap (λ x. layered x own) e ∙ sym (hears_clear_below q h)
 
   -- what is put into the layer's own table stands on the layer
-  pub put-stands : (own' : ℕ → Option Date) (q k : ℕ) (x : Option Date) → k ≡ q - m.rule.dates → m.rule.dates < q → q - m.rule.dates ≤ added m.rule.places → own' ≡ cond (within k 64) (put own k x) own → layered m own' ≡ with_date (layered m own) q x
-  put-stands own' q k x same h i e =
+  pub put_stands : (own' : ℕ → Option Date) (q k : ℕ) (x : Option Date) → k ≡ q - m.rule.dates → m.rule.dates < q → q - m.rule.dates ≤ added m.rule.places → own' ≡ cond (within k 64) (put own k x) own → layered m own' ≡ with_date (layered m own) q x
+  put_stands own' q k x same h i e =
       let stands : own' ≡ put own (q - m.rule.dates) x =
       e ∙ cond-true (within k 64) _ _ (within_true k 64 (omega arith) (omega arith)) ∙ ap (λ j. put own j x) same in
       ap (layered m) stands ∙ sym (with_own q x h i)
