@@ -24,6 +24,7 @@ pub(crate) fn no_form(line: usize) -> TextRefusal
 }
 
 /// Says the forms of a text to a book, from the second line on, until the first refusal or the end.
+#[inline(never)]
 pub(crate) fn heard_all<B: Book>(book: &mut B, reader: &mut Reader) -> Option<TextRefusal>
 where
     B::Entry: Worded + Spanned,

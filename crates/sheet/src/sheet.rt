@@ -53,6 +53,7 @@ where
 
 /// Writes the sheet of an issued plan into the caller's bytes, and says how many it wrote. It is refused exactly where
 /// they are too few, and then they hold what they held; bytes past the sheet always do.
+#[inline(never)]
 pub fn sheet<B: Book>(plan: &IssuedPlan<B>, out: &mut [u8]) -> Result<usize, Refused>
 where
     B::Entry: Spanned,
