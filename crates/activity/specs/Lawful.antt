@@ -4,8 +4,7 @@ use Rattle.std.proofs.Common.{sym, ap, subst, ◌∙◌, inl, inr, ⊎_elim, ari
 use Rattle.std.proofs.lemmas.Int.{ints}
 use Rattle.std.proofs.lemmas.Bool.{cond-true, cond-false, and_parts, leb-true, eqb-true}
 use Rattle.network.specs.declared.gap.Gap.{Gap}
-use Rattle.network.specs.declared.gap.Owner.{Owner}
-use Rattle.network.specs.declared.gap.OwnerLayer.TheVariants.{Book}
+use Rattle.network.specs.declared.gap.Owner.TheVariants.{Line}
 use Rattle.network.specs.Meanings.{Bounded}
 use Rattle.book.specs.declared.date.Bound.{Bound}
 use Rattle.book.specs.declared.date.Bound.TheVariants.{Least, Most}
@@ -30,14 +29,14 @@ use Rattle.activity.specs.Activities.{day_count, longest_pause, work_in_range, a
 use Rattle.activity.specs.Relations.{lag_in_range, first_event, second_event, follows, relates}
 use Rattle.activity.specs.Rule.{is_activity, owner_of, first_place, second_place, relation_in_range, gap_of, judged_by, activity_rule}
 
-owner_inside : (p : ℕ) → 1 ≤ p → p ≤ 800 → owner_of p ≡ record { layer = Book; number = (p + 1) / 2 }
+owner_inside : (p : ℕ) → 1 ≤ p → p ≤ 800 → owner_of p ≡ Line ((p + 1) / 2)
 owner_inside p low high = cond-true (within p 800) _ _ (within_true p 800 low high)
 
-owner_at : (p n : ℕ) → 1 ≤ p → p ≤ 800 → (p + 1) / 2 ≡ n → owner_of p ≡ record { layer = Book; number = n }
-owner_at p n low high e = owner_inside p low high ∙ ap (λ k. record { layer = Book; number = k }) e
+owner_at : (p n : ℕ) → 1 ≤ p → p ≤ 800 → (p + 1) / 2 ≡ n → owner_of p ≡ Line n
+owner_at p n low high e = owner_inside p low high ∙ ap Line e
 
-owned : (p : ℕ) → 1 ≤ p → p ≤ 800 → OwnsIn activity_rule (owner_of p).layer (owner_of p).number
-owned p low high = subst (λ (o : Owner). OwnsIn activity_rule o.layer o.number) (sym (owner_inside p low high)) (omega arith, omega arith)
+owned : (p : ℕ) → 1 ≤ p → p ≤ 800 → OwnsIn activity_rule (owner_of p)
+owned p low high = subst (OwnsIn activity_rule) (sym (owner_inside p low high)) (omega arith, omega arith)
 
 -- an activity within range has at most 9,999 days
 few_days : (w : Work) → work_in_range w ≡ true → day_count w ≤ 9999
@@ -120,7 +119,7 @@ entry_put : (n : ℕ) (e : Entry) (p : ℕ) (g : Gap) → n ≤ 400 → gap_of n
 entry_put n (entry.Activity a) p g high e = activity_put n a p g high e
 entry_put n (entry.Relation r) p g high e = relation_put n r p g e
 
-owns_places : (n p : ℕ) → 1 ≤ n → n ≤ 400 → (p ≡ first_place n) ⊎ (p ≡ second_place n) → owner_of p ≡ record { layer = Book; number = n }
+owns_places : (n p : ℕ) → 1 ≤ n → n ≤ 400 → (p ≡ first_place n) ⊎ (p ≡ second_place n) → owner_of p ≡ Line n
 owns_places n p low high (inl e) = owner_at p n (omega arith) (omega arith) (omega arith)
 owns_places n p low high (inr e) = owner_at p n (omega arith) (omega arith) (omega arith)
 

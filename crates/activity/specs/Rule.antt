@@ -5,7 +5,7 @@
 use Rattle.std.specs.Prelude.{ℕ, zero, suc, ◌+◌, ◌-◌, ◌*◌, ◌/◌, Bool, true, false, cond, not, ◌&&◌, ◌||◌, Some, None, Option, ◌==◌}
 use Rattle.network.specs.declared.gap.Gap.{Gap}
 use Rattle.network.specs.declared.gap.Owner.{Owner}
-use Rattle.network.specs.declared.gap.OwnerLayer.TheVariants.{Book}
+use Rattle.network.specs.declared.gap.Owner.TheVariants.{Line}
 use Rattle.network.specs.Meanings.{unowned}
 use Rattle.book.specs.declared.refusal.Refusal.{Refusal}
 use Rattle.book.specs.declared.refusal.Refusal.TheVariants.{OutOfRange, SameEnds, NoActivity}
@@ -48,7 +48,7 @@ second_place p = 2 * p
 
 -- the line whose two places are 2p - 1 and 2p
 abbrev pub owner_of : ℕ → Owner
-owner_of place = cond (within place 800) (record { layer = Book; number = (place + 1) / 2 }) unowned
+owner_of place = cond (within place 800) (Line ((place + 1) / 2)) unowned
 
 -- the lag is within range, and both lines are there
 abbrev pub relation_in_range : Relation → Bool

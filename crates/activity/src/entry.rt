@@ -90,6 +90,6 @@ impl Relation {
     pub fn lag_in_range(&self) -> bool
         ensures { result ≡ lag_in_range self.now.lag }
     {
-        -9_999 <= self.lag && self.lag <= 9_999
+        (-9_999..=9_999).contains(&self.lag)
     }
 }

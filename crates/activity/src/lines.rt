@@ -1,9 +1,9 @@
 //! The lines of the activity book, and the rule they go by.
 
-ghost use Rattle.std.specs.Prelude.{◌≡◌, if◌then◌else◌, None};
-ghost use Rattle.book.specs.Rules.{within};
+ghost use Rattle.std.specs.Prelude.{◌≡◌, None};
+ghost use Rattle.std.specs.Result.{result_err};
 ghost use Rattle.book.specs.Calls.{put as replacing};
-ghost use Rattle.table.specs.Standing.{standing};
+ghost use Rattle.table.specs.Standing.{standing, changed};
 ghost use Rattle.activity.specs.declared.entry.Entry.TheVariants as entry;
 ghost use Rattle.activity.specs.Rule.{activity_rule, is_activity, names, named, named_elsewhere, judged_by};
 ghost use Rattle.activity.specs.Lawful.{activity_lawful};
@@ -15,7 +15,7 @@ use crate::places::{ends_by, relating, relation_in_range, runs_for};
 use book::range::is_within;
 use book::refusal::Refusal;
 use line_book::lines::Lines;
-use network::gap::{Gap, Owner, OwnerLayer};
+use network::gap::{Gap, Owner};
 use table::{LINES, LineTable, Table};
 
 /// The number of the last event: the finish of line 400.
@@ -75,19 +75,19 @@ impl ActivityLines {
     }
 
     /// The refusal that meets a relation on line `p`, judged as if that line were empty.
-    fn judged_relation(&self, p: usize, r: Relation) -> Option<Refusal>
-        ensures { result ≡ judged_by (replacing (standing self.now.table) p None) p (entry.Relation r) }
+    fn judged_relation(&self, p: usize, r: Relation) -> Result<(), Refusal>
+        ensures { result_err result ≡ judged_by (replacing (standing self.now.table) p None) p (entry.Relation r) }
     {
         if !r.lag_in_range() {
-            return Some(Refusal::OutOfRange);
+            return Err(Refusal::OutOfRange);
         }
         if r.first == r.second {
-            return Some(Refusal::SameEnds);
+            return Err(Refusal::SameEnds);
         }
         if !(self.has_activity(p, r.first) && self.has_activity(p, r.second)) {
-            return Some(Refusal::NoActivity);
+            return Err(Refusal::NoActivity);
         }
-        None
+        Ok(())
     }
 }
 
@@ -114,8 +114,9 @@ impl Lines for ActivityLines {
         self.table.get(p)
     }
 
+    // the check asks for the trait's clause again here
     fn put(&mut self, p: usize, stands: Option<Entry>)
-        ensures { standing self.new.table ≡ (if within p 400 then replacing (standing self.old.table) p stands else standing self.old.table) }
+        ensures { standing self.new.table ≡ changed 400 (standing self.old.table) p stands }
     {
         self.table.put(p, stands);
     }
@@ -130,15 +131,9 @@ impl Lines for ActivityLines {
 
     fn owner(place: usize) -> Owner {
         if is_within(place, PLACES) {
-            Owner {
-                layer: OwnerLayer::Book,
-                number: place.div_ceil(2),
-            }
+            Owner::Line(place.div_ceil(2))
         } else {
-            Owner {
-                layer: OwnerLayer::Floor,
-                number: 0,
-            }
+            Owner::Floor
         }
     }
 
@@ -167,10 +162,10 @@ impl Lines for ActivityLines {
         }
     }
 
-    fn judged(&self, p: usize, e: Entry) -> Option<Refusal> {
+    fn judged(&self, p: usize, e: Entry) -> Result<(), Refusal> {
         match e {
-            Entry::Activity(a) if a.in_range() => None,
-            Entry::Activity(_) => Some(Refusal::OutOfRange),
+            Entry::Activity(a) if a.in_range() => Ok(()),
+            Entry::Activity(_) => Err(Refusal::OutOfRange),
             Entry::Relation(r) => self.judged_relation(p, r),
         }
     }

@@ -45,14 +45,12 @@ pub(crate) fn ends_by(p: usize, a: Activity) -> Option<Gap>
     requires { p ≤ 400 }
     ensures { result ≡ ends_by p a }
 {
-    match a.pause() {
-        Some(pause) => Some(Gap {
-            left: finish_of(p),
-            reached: start_of(p),
-            days: -(i64::from(a.days()) + i64::from(pause)),
-        }),
-        None => None,
-    }
+    let pause = a.pause()?;
+    Some(Gap {
+        left: finish_of(p),
+        reached: start_of(p),
+        days: -(i64::from(a.days()) + i64::from(pause)),
+    })
 }
 
 fn first_event(kind: Kind, a: usize) -> usize

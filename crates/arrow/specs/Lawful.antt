@@ -4,8 +4,7 @@ use Rattle.std.proofs.Common.{sym, ap, subst, ◌∙◌, ⊎_elim, arith}
 use Rattle.std.proofs.lemmas.Int.{ints}
 use Rattle.std.proofs.lemmas.Bool.{cond-true, cond-false, and_parts, leb-true, eqb-true}
 use Rattle.network.specs.declared.gap.Gap.{Gap}
-use Rattle.network.specs.declared.gap.Owner.{Owner}
-use Rattle.network.specs.declared.gap.OwnerLayer.TheVariants.{Book}
+use Rattle.network.specs.declared.gap.Owner.TheVariants.{Line}
 use Rattle.network.specs.Meanings.{Bounded}
 use Rattle.book.specs.declared.refusal.Refusal.{Refusal}
 use Rattle.book.specs.declared.refusal.Refusal.TheVariants.{OutOfRange, SameEnds}
@@ -17,11 +16,11 @@ use Rattle.book.proofs.Ranges.{within_true, within_false, within_parts}
 use Rattle.arrow.specs.declared.entry.Arrow.{Arrow}
 use Rattle.arrow.specs.Rule.{arrow_in_range, leads, owner_of, gap_of, judged_by, arrow_rule}
 
-owner_inside : (p : ℕ) → 1 ≤ p → p ≤ 400 → owner_of p ≡ record { layer = Book; number = p }
+owner_inside : (p : ℕ) → 1 ≤ p → p ≤ 400 → owner_of p ≡ Line p
 owner_inside p low high = cond-true (within p 400) _ _ (within_true p 400 low high)
 
-owned : (p : ℕ) → 1 ≤ p → p ≤ 400 → OwnsIn arrow_rule (owner_of p).layer (owner_of p).number
-owned p low high = subst (λ (o : Owner). OwnsIn arrow_rule o.layer o.number) (sym (owner_inside p low high)) (low, high)
+owned : (p : ℕ) → 1 ≤ p → p ≤ 400 → OwnsIn arrow_rule (owner_of p)
+owned p low high = subst (OwnsIn arrow_rule) (sym (owner_inside p low high)) (low, high)
 
 leads_bounded : (a : Arrow) → arrow_in_range a ≡ true → Bounded 200 (leads a)
 leads_bounded a t =
@@ -49,8 +48,8 @@ arrow_put n a p g e =
       bounded = subst (Bounded 200) here.1 (leads_bounded a (and_parts (within n 400) (arrow_in_range a) taken.0).1);
     }
 
-own_place : (n p : ℕ) → 1 ≤ n → n ≤ 400 → p ≡ n → owner_of p ≡ record { layer = Book; number = n }
-own_place n p low high e = owner_inside p (omega arith) (omega arith) ∙ ap (λ k. record { layer = Book; number = k }) e
+own_place : (n p : ℕ) → 1 ≤ n → n ≤ 400 → p ≡ n → owner_of p ≡ Line n
+own_place n p low high e = owner_inside p (omega arith) (omega arith) ∙ ap Line e
 
 refused_4_or_5 : (ls : ℕ → Option Arrow) (n : ℕ) (a : Arrow) (k : Refusal) → judged_by ls n a ≡ Some k → (4 ≤ number k) × (number k ≤ 6)
 refused_4_or_5 ls n a k e =

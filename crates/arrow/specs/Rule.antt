@@ -3,7 +3,7 @@
 use Rattle.std.specs.Prelude.{ℕ, Bool, true, cond, not, ◌&&◌, pos, Some, None, Option, ◌==◌, nat_le}
 use Rattle.network.specs.declared.gap.Gap.{Gap}
 use Rattle.network.specs.declared.gap.Owner.{Owner}
-use Rattle.network.specs.declared.gap.OwnerLayer.TheVariants.{Book}
+use Rattle.network.specs.declared.gap.Owner.TheVariants.{Line}
 use Rattle.network.specs.Meanings.{unowned}
 use Rattle.book.specs.declared.refusal.Refusal.{Refusal}
 use Rattle.book.specs.declared.refusal.Refusal.TheVariants.{OutOfRange, SameEnds}
@@ -22,7 +22,7 @@ leads a = record { left = a.from; reached = a.to; days = pos a.days }
 
 -- line p owns place p
 abbrev pub owner_of : ℕ → Owner
-owner_of place = cond (within place 400) (record { layer = Book; number = place }) unowned
+owner_of place = cond (within place 400) (Line place) unowned
 
 -- an arrow whose numbers are out of range asks for nothing
 abbrev pub gap_of : ℕ → Arrow → ℕ → Option Gap

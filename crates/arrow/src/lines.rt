@@ -1,9 +1,7 @@
 //! The lines of the arrow book, and the rule they go by.
 
-ghost use Rattle.std.specs.Prelude.{◌≡◌, if◌then◌else◌};
-ghost use Rattle.book.specs.Calls.{put as replacing};
-ghost use Rattle.book.specs.Rules.{within};
-ghost use Rattle.table.specs.Standing.{standing};
+ghost use Rattle.std.specs.Prelude.{◌≡◌};
+ghost use Rattle.table.specs.Standing.{standing, changed};
 ghost use Rattle.arrow.specs.Rule.{arrow_rule};
 ghost use Rattle.arrow.specs.Lawful.{arrow_lawful};
 ghost use Rattle.table.proofs.Tables.{in_table};
@@ -13,7 +11,7 @@ use crate::entry::{Arrow, NODES};
 use book::range::is_within;
 use book::refusal::Refusal;
 use line_book::lines::Lines;
-use network::gap::{Gap, Owner, OwnerLayer};
+use network::gap::{Gap, Owner};
 use table::{LINES, LineTable, Table};
 
 /// 400 lines of arrows.
@@ -45,8 +43,9 @@ impl Lines for ArrowLines {
         self.table.get(p)
     }
 
+    // the check asks for the trait's clause again here
     fn put(&mut self, p: usize, stands: Option<Arrow>)
-        ensures { standing self.new.table ≡ (if within p 400 then replacing (standing self.old.table) p stands else standing self.old.table) }
+        ensures { standing self.new.table ≡ changed 400 (standing self.old.table) p stands }
     {
         self.table.put(p, stands);
     }
@@ -61,15 +60,9 @@ impl Lines for ArrowLines {
 
     fn owner(place: usize) -> Owner {
         if is_within(place, LINES) {
-            Owner {
-                layer: OwnerLayer::Book,
-                number: place,
-            }
+            Owner::Line(place)
         } else {
-            Owner {
-                layer: OwnerLayer::Floor,
-                number: 0,
-            }
+            Owner::Floor
         }
     }
 
@@ -81,13 +74,13 @@ impl Lines for ArrowLines {
         }
     }
 
-    fn judged(&self, _p: usize, e: Arrow) -> Option<Refusal> {
+    fn judged(&self, _p: usize, e: Arrow) -> Result<(), Refusal> {
         if !e.in_range() {
-            Some(Refusal::OutOfRange)
+            Err(Refusal::OutOfRange)
         } else if e.from == e.to {
-            Some(Refusal::SameEnds)
+            Err(Refusal::SameEnds)
         } else {
-            None
+            Ok(())
         }
     }
 

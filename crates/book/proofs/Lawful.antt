@@ -2,8 +2,8 @@
 use Rattle.std.proofs.Common.{◌≡◌, ℕ, ◌<◌, ◌≤◌, ◌⊎◌, Some, None, sym, ap, ◌∙◌, inl, inr, ⊎_elim, arith}
 use Rattle.std.proofs.lemmas.Bool.{cases_lt}
 use Rattle.network.specs.declared.gap.Gap.{Gap}
-use Rattle.network.specs.declared.gap.OwnerLayer.{OwnerLayer}
-use Rattle.network.specs.declared.gap.OwnerLayer.TheVariants.{Book, Dates, Floor}
+use Rattle.network.specs.declared.gap.Owner.{Owner}
+use Rattle.network.specs.declared.gap.Owner.TheVariants.{Line, DatePlace, Floor}
 use Rattle.network.specs.Meanings.{Lawful, Outside, Bounded}
 use Rattle.book.specs.Rules.{BookMeaning, held, network_of}
 use Rattle.book.specs.Laws.{LawfulRule, OwnsIn}
@@ -18,22 +18,22 @@ cases_outside n p =
     (cases_lt 0 p)
 
 module _ {E : Type 0} (m : BookMeaning E) (laws : LawfulRule m.rule) where
-  held_bounded : (l : OwnerLayer) (n p : ℕ) (g : Gap) → OwnsIn m.rule l n → held m l n p ≡ Some g → Bounded m.rule.events g
-  held_bounded Book n p g owns e =
+  held_bounded : (o : Owner) (p : ℕ) (g : Gap) → OwnsIn m.rule o → held m o p ≡ Some g → Bounded m.rule.events g
+  held_bounded (Line n) p g owns e =
       let from = after_some (m.ledger.line n) (λ x. m.rule.line_gap n x p) g e in
       laws.line_bounded n from.0 p g owns.0 owns.1 from.2
-  held_bounded Dates n p g owns e =
+  held_bounded (DatePlace n) p g owns e =
       let from = after_some (m.ledger.date n) (λ x. m.rule.date_gap n x p) g e in
       laws.date_bounded n from.0 p g owns.0 owns.1 from.2
-  held_bounded Floor n p g owns e = absurd owns
+  held_bounded Floor p g owns e = absurd owns
 
   held_outside : (p : ℕ) → Outside m.rule.places p → (network_of m).gap p ≡ None
-  held_outside p out = ap (λ o. held m o.layer o.number p) (laws.floor_outside p out)
+  held_outside p out = ap (λ o. held m o p) (laws.floor_outside p out)
 
   gap_bounded : (p : ℕ) (g : Gap) → (network_of m).gap p ≡ Some g → Bounded m.rule.events g
   gap_bounded p g e =
       ⊎_elim
-      (λ (inside : (1 ≤ p) × (p ≤ m.rule.places)). held_bounded (m.rule.owner p).layer (m.rule.owner p).number p g (laws.owned p inside.0 inside.1) e)
+      (λ (inside : (1 ≤ p) × (p ≤ m.rule.places)). held_bounded (m.rule.owner p) p g (laws.owned p inside.0 inside.1) e)
       (λ (out : Outside m.rule.places p). absurd (none_is_not g (sym (held_outside p out) ∙ e)))
       (cases_outside m.rule.places p)
 

@@ -4,8 +4,7 @@ use Rattle.std.proofs.lemmas.Int.{ints}
 use Rattle.std.proofs.lemmas.Bool.{cases_lt, cond-true, cond-false, le-leb, lt-leb, leb-true, eqb-true, and_parts}
 use Rattle.network.specs.declared.gap.Gap.{Gap}
 use Rattle.network.specs.declared.gap.Owner.{Owner}
-use Rattle.network.specs.declared.gap.OwnerLayer.{OwnerLayer}
-use Rattle.network.specs.declared.gap.OwnerLayer.TheVariants.{Book, Dates, Floor}
+use Rattle.network.specs.declared.gap.Owner.TheVariants.{Line, DatePlace, Floor}
 use Rattle.network.specs.Meanings.{Outside, Bounded, unowned}
 use Rattle.book.specs.declared.date.Bound.{Bound}
 use Rattle.book.specs.declared.date.Bound.TheVariants.{Least, Most}
@@ -31,7 +30,7 @@ module _ {E : Type 0} (r : Rule E) where
   pub owner_below : (p : ℕ) → p ≤ r.places → layer_owner r p ≡ r.owner p
   owner_below p h = cond-true (leb p r.places) _ _ (le-leb p r.places h)
 
-  pub owner_own : (p : ℕ) → r.places < p → p ≤ r.places + added r.places → layer_owner r p ≡ record { layer = Dates; number = r.dates + (p - r.places) }
+  pub owner_own : (p : ℕ) → r.places < p → p ≤ r.places + added r.places → layer_owner r p ≡ DatePlace (r.dates + (p - r.places))
   owner_own p low high = cond-false (leb p r.places) _ _ (lt-leb p r.places low) ∙ cond-true (leb p (r.places + added r.places)) _ _ (le-leb p _ high)
 
   owner_past : (p : ℕ) → r.places < p → r.places + added r.places < p → layer_owner r p ≡ unowned
@@ -44,17 +43,17 @@ module _ {E : Type 0} (r : Rule E) where
   gap_own q d p h = cond-false (leb q r.dates) _ _ (lt-leb q r.dates h)
 
   -- what owned a place below owns it still
-  owns_still : (l : OwnerLayer) (n : ℕ) → OwnsIn r l n → OwnsIn (layer_rule r) l n
-  owns_still Book n h = h
-  owns_still Dates n h = (h.0, omega (arith, h.1))
-  owns_still Floor n h = h
+  owns_still : (o : Owner) → OwnsIn r o → OwnsIn (layer_rule r) o
+  owns_still (Line n) h = h
+  owns_still (DatePlace n) h = (h.0, omega (arith, h.1))
+  owns_still Floor h = h
 
   module _ (laws : LawfulRule r) where
-    layer_owned : (p : ℕ) → 1 ≤ p → p ≤ r.places + added r.places → OwnsIn (layer_rule r) (layer_owner r p).layer (layer_owner r p).number
+    layer_owned : (p : ℕ) → 1 ≤ p → p ≤ r.places + added r.places → OwnsIn (layer_rule r) (layer_owner r p)
     layer_owned p low high =
         ⊎_elim
-        (λ (over : r.places < p). subst (λ (o : Owner). OwnsIn (layer_rule r) o.layer o.number) (sym (owner_own p over high)) (omega arith, omega arith))
-        (λ (under : p ≤ r.places). subst (λ (o : Owner). OwnsIn (layer_rule r) o.layer o.number) (sym (owner_below p under)) (owns_still (r.owner p).layer (r.owner p).number (laws.owned p low under)))
+        (λ (over : r.places < p). subst (OwnsIn (layer_rule r)) (sym (owner_own p over high)) (omega arith, omega arith))
+        (λ (under : p ≤ r.places). subst (OwnsIn (layer_rule r)) (sym (owner_below p under)) (owns_still (r.owner p) (laws.owned p low under)))
         (cases_lt r.places p)
 
     layer_outside : (p : ℕ) → Outside (r.places + added r.places) p → layer_owner r p ≡ unowned
@@ -62,22 +61,22 @@ module _ {E : Type 0} (r : Rule E) where
     layer_outside p (inr high) = owner_past p (omega arith) high
 
     -- a place that somebody owns below is owned by the same above
-    owner_kept : (p : ℕ) (l : OwnerLayer) (n : ℕ) → (l ≡ Floor → ⊥) → r.owner p ≡ record { layer = l; number = n } → layer_owner r p ≡ record { layer = l; number = n }
-    owner_kept p l n real e =
+    owner_kept : (p : ℕ) (o : Owner) → (o ≡ Floor → ⊥) → r.owner p ≡ o → layer_owner r p ≡ o
+    owner_kept p o real e =
         ⊎_elim
-        (λ (over : r.places < p). absurd (real (ap (λ (o : Owner). o.layer) (sym e ∙ laws.floor_outside p (inr over)))))
+        (λ (over : r.places < p). absurd (real (sym e ∙ laws.floor_outside p (inr over))))
         (λ (under : p ≤ r.places). owner_below p under ∙ e)
         (cases_lt r.places p)
 
-    layer_own_date : (q : ℕ) (d : Date) (p : ℕ) (g : Gap) → 1 ≤ q → q ≤ r.dates + added r.places → layer_gap r q d p ≡ Some g → layer_owner r p ≡ record { layer = Dates; number = q }
+    layer_own_date : (q : ℕ) (d : Date) (p : ℕ) (g : Gap) → 1 ≤ q → q ≤ r.dates + added r.places → layer_gap r q d p ≡ Some g → layer_owner r p ≡ DatePlace q
     layer_own_date q d p g low high e =
         ⊎_elim
         (λ (over : r.dates < q).
         let through = let_through _ (asked d) g (sym (gap_own q d p over) ∙ e) in
         let at = eqb-true p (r.places + (q - r.dates)) (and_parts (eqb p (r.places + (q - r.dates))) (date_in_range r.events d) through.0).0 in
         let number : r.dates + (p - r.places) ≡ q = omega arith in
-        owner_own p (omega arith) (omega arith) ∙ ap (λ k. record { layer = Dates; number = k }) number)
-        (λ (under : q ≤ r.dates). owner_kept p Dates q (λ z. let w : ◌≡◌ {A = ℕ} 0 1 = cc in omega arith) (laws.own_date q d p g low under (sym (gap_below q d p under) ∙ e)))
+        owner_own p (omega arith) (omega arith) ∙ ap DatePlace number)
+        (λ (under : q ≤ r.dates). owner_kept p (DatePlace q) (λ z. let w : ◌≡◌ {A = ℕ} 0 1 = cc in omega arith) (laws.own_date q d p g low under (sym (gap_below q d p under) ∙ e)))
         (cases_lt r.dates q)
 
     layer_date_bounded : (q : ℕ) (d : Date) (p : ℕ) (g : Gap) → 1 ≤ q → q ≤ r.dates + added r.places → layer_gap r q d p ≡ Some g → Bounded r.events g
@@ -97,7 +96,7 @@ module _ {E : Type 0} (r : Rule E) where
       few_dates = omega (arith, laws.few_dates);
       owned = layer_owned;
       floor_outside = layer_outside;
-      own_line = λ n e p g low high at. owner_kept p Book n (λ z. let w : ◌≡◌ {A = ℕ} 0 1 = cc in omega arith) (laws.own_line n e p g low high at);
+      own_line = λ n e p g low high at. owner_kept p (Line n) (λ z. let w : ◌≡◌ {A = ℕ} 0 1 = cc in omega arith) (laws.own_line n e p g low high at);
       own_date = layer_own_date;
       line_bounded = laws.line_bounded;
       date_bounded = layer_date_bounded;

@@ -5,7 +5,7 @@
 use Rattle.std.specs.Prelude.{ℕ, ◌+◌, ◌-◌, min, Bool, cond, ◌&&◌, pos, neg_ℤ, Some, None, Option, ◌==◌, nat_le}
 use Rattle.network.specs.declared.gap.Gap.{Gap}
 use Rattle.network.specs.declared.gap.Owner.{Owner}
-use Rattle.network.specs.declared.gap.OwnerLayer.TheVariants.{Dates}
+use Rattle.network.specs.declared.gap.Owner.TheVariants.{DatePlace}
 use Rattle.network.specs.Meanings.{unowned}
 use Rattle.book.specs.declared.date.Bound.{Bound}
 use Rattle.book.specs.declared.date.Bound.TheVariants.{Least, Most}
@@ -30,7 +30,7 @@ asked d = asked_by d.bound d.event d.day
 
 -- the layer's date places and places follow those below, one place to a date place
 abbrev pub layer_owner : {E : Type 0} → Rule E → ℕ → Owner
-layer_owner r p = cond (nat_le p r.places) (r.owner p) (cond (nat_le p (r.places + added r.places)) (record { layer = Dates; number = r.dates + (p - r.places) }) unowned)
+layer_owner r p = cond (nat_le p r.places) (r.owner p) (cond (nat_le p (r.places + added r.places)) (DatePlace (r.dates + (p - r.places))) unowned)
 
 -- a date out of range asks for nothing
 abbrev pub layer_gap : {E : Type 0} → Rule E → ℕ → Date → ℕ → Option Gap

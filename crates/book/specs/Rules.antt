@@ -7,8 +7,7 @@
 use Rattle.std.specs.Prelude.{ℕ, Bool, ◌&&◌, Some, None, Option, nat_le}
 use Rattle.network.specs.declared.gap.Gap.{Gap}
 use Rattle.network.specs.declared.gap.Owner.{Owner}
-use Rattle.network.specs.declared.gap.OwnerLayer.{OwnerLayer}
-use Rattle.network.specs.declared.gap.OwnerLayer.TheVariants.{Book, Dates, Floor}
+use Rattle.network.specs.declared.gap.Owner.TheVariants.{Line, DatePlace, Floor}
 use Rattle.network.specs.Meanings.{Meaning}
 use Rattle.book.specs.declared.date.Date.{Date}
 use Rattle.book.specs.declared.refusal.Refusal.{Refusal}
@@ -49,16 +48,16 @@ abbrev pub after : {A B : Type 0} → Option A → (A → Option B) → Option B
 after None f = None
 after (Some a) f = f a
 
--- what a place holds, by its owner's layer and number
-abbrev pub held : {E : Type 0} → BookMeaning E → OwnerLayer → ℕ → ℕ → Option Gap
-held m Book n place = after (m.ledger.line n) (λ e. m.rule.line_gap n e place)
-held m Dates n place = after (m.ledger.date n) (λ d. m.rule.date_gap n d place)
-held m Floor n place = None
+-- what a place holds, by its owner
+abbrev pub held : {E : Type 0} → BookMeaning E → Owner → ℕ → Option Gap
+held m (Line n) place = after (m.ledger.line n) (λ e. m.rule.line_gap n e place)
+held m (DatePlace n) place = after (m.ledger.date n) (λ d. m.rule.date_gap n d place)
+held m Floor place = None
 
 abbrev pub network_of : {E : Type 0} → BookMeaning E → Meaning
 network_of m = record {
   events = m.rule.events;
   places = m.rule.places;
-  gap = λ place. held m (m.rule.owner place).layer (m.rule.owner place).number place;
+  gap = λ place. held m (m.rule.owner place) place;
   owner = m.rule.owner;
 }

@@ -1,8 +1,8 @@
 //! Why a call is refused, and where.
 
 ghost use Rattle.std.specs.Prelude.{◌≡◌};
-ghost use Rattle.book.specs.Calls.{by};
-ghost use Rattle.book.specs.Refusals.{number as numbered, told};
+ghost use Rattle.book.specs.Refusals.{number as numbered};
+ghost use Rattle.book.specs.declared.refusal.Refused.{Refused};
 
 /// The fifteen refusals, in the order of their numbers.
 #[derive(Clone, Copy, PartialEq, Eq, Debug)]
@@ -46,6 +46,17 @@ impl Refusal {
     {
         self as u8
     }
+
+    /// The refusal, as a layer makes it at a place.
+    pub fn at(self, layer: Layer, place: usize) -> Refused
+        ensures { result ≡ record { why = self; layer = layer; place = place } }
+    {
+        Refused {
+            why: self,
+            layer,
+            place,
+        }
+    }
 }
 
 /// The layer that refuses.
@@ -63,14 +74,4 @@ pub struct Refused {
     pub why: Refusal,
     pub layer: Layer,
     pub place: usize,
-}
-
-/// The answer to a call: refused by that layer at that place, or carried out.
-pub fn answer(layer: Layer, place: usize, verdict: Option<Refusal>) -> Result<(), Refused>
-    ensures { told result ≡ by layer place verdict }
-{
-    match verdict {
-        Some(why) => Err(Refused { why, layer, place }),
-        None => Ok(()),
-    }
 }

@@ -1,13 +1,13 @@
 -- The rule of a book that leaves room for six more places. Assumes nothing.
 use Rattle.std.specs.Prelude.{ℕ, ◌+◌, ◌-◌, ◌%◌, true, cond, None}
 use Rattle.network.specs.declared.gap.Owner.{Owner}
-use Rattle.network.specs.declared.gap.OwnerLayer.TheVariants.{Book}
+use Rattle.network.specs.declared.gap.Owner.TheVariants.{Line}
 use Rattle.network.specs.Meanings.{unowned}
 use Rattle.book.specs.Rules.{Rule, within}
 use Rattle.book_tests.specs.declared.cramped.Mark.{Mark}
 
 abbrev pub owner_of : ℕ → Owner
-owner_of place = cond (within place 4090) (record { layer = Book; number = (place - 1) % 400 + 1 }) unowned
+owner_of place = cond (within place 4090) (Line ((place - 1) % 400 + 1)) unowned
 
 abbrev pub cramped_rule : Rule Mark
 cramped_rule = record {

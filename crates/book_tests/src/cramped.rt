@@ -1,9 +1,7 @@
 //! A book that leaves room for six more places: 400 lines own 4,090 places, which hold nothing.
 
-ghost use Rattle.std.specs.Prelude.{◌≡◌, if◌then◌else◌};
-ghost use Rattle.book.specs.Calls.{put as replacing};
-ghost use Rattle.book.specs.Rules.{within};
-ghost use Rattle.table.specs.Standing.{standing};
+ghost use Rattle.std.specs.Prelude.{◌≡◌};
+ghost use Rattle.table.specs.Standing.{standing, changed};
 ghost use Rattle.book_tests.specs.Cramped.{cramped_rule};
 ghost use Rattle.book_tests.specs.Lawful.{cramped_lawful};
 ghost use Rattle.table.proofs.Tables.{in_table};
@@ -13,7 +11,7 @@ use book::range::is_within;
 use book::refusal::Refusal;
 use line_book::LineBook;
 use line_book::lines::Lines;
-use network::gap::{Gap, Owner, OwnerLayer};
+use network::gap::{Gap, Owner};
 use table::{LINES, LineTable, Table};
 
 /// An entry that asks for nothing.
@@ -52,8 +50,9 @@ impl Lines for CrampedLines {
         self.table.get(p)
     }
 
+    // the check asks for the trait's clause again here
     fn put(&mut self, p: usize, stands: Option<Mark>)
-        ensures { standing self.new.table ≡ (if within p 400 then replacing (standing self.old.table) p stands else standing self.old.table) }
+        ensures { standing self.new.table ≡ changed 400 (standing self.old.table) p stands }
     {
         self.table.put(p, stands);
     }
@@ -68,15 +67,9 @@ impl Lines for CrampedLines {
 
     fn owner(place: usize) -> Owner {
         if is_within(place, 4_090) {
-            Owner {
-                layer: OwnerLayer::Book,
-                number: (place - 1) % LINES + 1,
-            }
+            Owner::Line((place - 1) % LINES + 1)
         } else {
-            Owner {
-                layer: OwnerLayer::Floor,
-                number: 0,
-            }
+            Owner::Floor
         }
     }
 
@@ -84,8 +77,8 @@ impl Lines for CrampedLines {
         None
     }
 
-    fn judged(&self, _p: usize, _e: Mark) -> Option<Refusal> {
-        None
+    fn judged(&self, _p: usize, _e: Mark) -> Result<(), Refusal> {
+        Ok(())
     }
 
     fn strikes(&self, _p: usize) -> bool {

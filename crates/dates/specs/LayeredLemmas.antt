@@ -3,7 +3,6 @@ use Rattle.std.specs.Prelude.{◌≡◌, ℕ, ◌+◌, ◌-◌, ◌<◌, ◌≤�
 use Rattle.std.proofs.Common.{sym, ap, ◌∙◌, inl, inr, ⊎_elim, arith}
 use Rattle.std.proofs.Math.Path.{fun_ext}
 use Rattle.std.proofs.lemmas.Bool.{cases_lt, cases_eq, cond-true, cond-false, le-leb, lt-leb, eq-eqb}
-use Rattle.network.specs.declared.gap.Owner.{Owner}
 use Rattle.network.specs.Meanings.{Outside}
 use Rattle.book.specs.declared.date.Date.{Date}
 use Rattle.book.specs.Refusals.{Told}
@@ -139,6 +138,6 @@ module _ {E : Type 0} (m : BookMeaning E) (own : ℕ → Option Date) where
       let low : m.rule.dates < k = omega arith in
       let back : k - m.rule.dates ≡ p - m.rule.places = omega arith in
       let here : p ≡ m.rule.places + (k - m.rule.dates) = omega arith in
-      ap (λ (o : Owner). held (layered m own) o.layer o.number p) (owner_own m.rule p h (omega arith))
+      ap (λ o. held (layered m own) o p) (owner_own m.rule p h (omega arith))
       ∙ ap (λ x. after x (λ d. layer_gap m.rule k d p)) (date_own k low (omega arith) ∙ ap own back)
       ∙ ap (after (own (p - m.rule.places))) (fun_ext (λ d. gap_own m.rule k d p low ∙ ap (λ b. cond (b && date_in_range m.rule.events d) (Some (asked d)) None) (eq-eqb p _ here)))

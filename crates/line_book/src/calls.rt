@@ -9,7 +9,7 @@ ghost use Rattle.std.proofs.Common.{rules};
 use crate::LineBook;
 use crate::lines::Lines;
 use book::date::Date;
-use book::refusal::{Layer, Refusal, Refused, answer};
+use book::refusal::{Layer, Refusal, Refused};
 use book::traits::Book;
 use table::LINES;
 
@@ -50,38 +50,32 @@ impl<L: Lines> Book for LineBook<L> {
     }
 
     fn alteration(&self, p: usize, e: L::Entry) -> Result<(), Refused> {
-        answer(Layer::Book, p, self.on_alter(p, e))
+        self.on_alter(p, e).map_err(|why| why.at(Layer::Book, p))
     }
 
     fn enter(&mut self, p: usize, e: L::Entry) -> Result<(), Refused> {
-        let verdict = self.on_enter(p, e);
-        if verdict.is_none() {
-            self.lines.put(p, Some(e));
-        }
-        answer(Layer::Book, p, verdict)
+        self.on_enter(p, e).map_err(|why| why.at(Layer::Book, p))?;
+        self.lines.put(p, Some(e));
+        Ok(())
     }
 
     fn alter(&mut self, p: usize, e: L::Entry) -> Result<(), Refused> {
-        let verdict = self.on_alter(p, e);
-        if verdict.is_none() {
-            self.lines.put(p, Some(e));
-        }
-        answer(Layer::Book, p, verdict)
+        self.alteration(p, e)?;
+        self.lines.put(p, Some(e));
+        Ok(())
     }
 
     fn strike(&mut self, p: usize) -> Result<(), Refused> {
-        let verdict = self.on_strike(p);
-        if verdict.is_none() {
-            self.lines.put(p, None);
-        }
-        answer(Layer::Book, p, verdict)
+        self.on_strike(p).map_err(|why| why.at(Layer::Book, p))?;
+        self.lines.put(p, None);
+        Ok(())
     }
 
     fn date(&mut self, q: usize, _d: Date) -> Result<(), Refused> {
-        answer(Layer::Dates, q, Some(Refusal::NoSuchDatePlace))
+        Err(Refusal::NoSuchDatePlace.at(Layer::Dates, q))
     }
 
     fn clear(&mut self, q: usize) -> Result<(), Refused> {
-        answer(Layer::Dates, q, Some(Refusal::NoSuchDatePlace))
+        Err(Refusal::NoSuchDatePlace.at(Layer::Dates, q))
     }
 }

@@ -1,9 +1,11 @@
 //! What one kind of lines says, so that one book serves every kind.
 
-ghost use Rattle.std.specs.Prelude.{◌≡◌, ℕ, if◌then◌else◌, None, Option};
-ghost use Rattle.book.specs.Rules.{Rule, within};
+ghost use Rattle.std.specs.Prelude.{◌≡◌, ℕ, None, Option};
+ghost use Rattle.std.specs.Result.{result_err};
+ghost use Rattle.book.specs.Rules.{Rule};
 ghost use Rattle.book.specs.Calls.{put as replacing};
 ghost use Rattle.book.specs.Laws.{LawfulRule};
+ghost use Rattle.table.specs.Standing.{changed};
 ghost use Rattle.line_book.specs.LineBooks.{LinesOnly, InTable};
 
 use book::refusal::Refusal;
@@ -31,7 +33,7 @@ pub trait Lines: Sized {
 
     /// Changes what stands on one line from 1 to 400; elsewhere nothing changes.
     fn put(&mut self, p: usize, stands: Option<Self::Entry>)
-        ensures { standing self.new ≡ (if within p 400 then replacing (standing self.old) p stands else standing self.old) };
+        ensures { standing self.new ≡ changed 400 (standing self.old) p stands };
 
     /// The number of the last event.
     fn events() -> usize
@@ -41,7 +43,7 @@ pub trait Lines: Sized {
     fn places() -> usize
         ensures { result ≡ rule.places };
 
-    /// The owner of a place; the floor, with number 0, where there is no such place.
+    /// The owner of a place; the floor where there is no such place.
     fn owner(place: usize) -> Owner
         ensures { result ≡ rule.owner place };
 
@@ -50,8 +52,8 @@ pub trait Lines: Sized {
         ensures { result ≡ rule.line_gap p e place };
 
     /// The refusal that meets an entry on line `p`, judged as if that line were empty.
-    fn judged(&self, p: usize, e: Self::Entry) -> Option<Refusal>
-        ensures { result ≡ rule.enters (replacing (standing self.now) p None) p e };
+    fn judged(&self, p: usize, e: Self::Entry) -> Result<(), Refusal>
+        ensures { result_err result ≡ rule.enters (replacing (standing self.now) p None) p e };
 
     /// Whether what stands on line `p` may be struck.
     fn strikes(&self, p: usize) -> bool

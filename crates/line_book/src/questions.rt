@@ -6,7 +6,7 @@ ghost use Rattle.book.proofs.Lawful.{network_lawful};
 
 use crate::LineBook;
 use crate::lines::Lines;
-use network::gap::{Gap, Owner, OwnerLayer};
+use network::gap::{Gap, Owner};
 use network::network::Network;
 
 impl<L: Lines> Network for LineBook<L> {
@@ -23,14 +23,9 @@ impl<L: Lines> Network for LineBook<L> {
     }
 
     fn gap(&self, place: usize) -> Option<Gap> {
-        let owner = L::owner(place);
-        match owner.layer {
-            OwnerLayer::Book => match self.lines.get(owner.number) {
-                Some(e) => L::gap(owner.number, e, place),
-                None => None,
-            },
-            OwnerLayer::Dates => None,
-            OwnerLayer::Floor => None,
+        match L::owner(place) {
+            Owner::Line(p) => L::gap(p, self.lines.get(p)?, place),
+            Owner::DatePlace(_) | Owner::Floor => None,
         }
     }
 

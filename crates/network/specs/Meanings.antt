@@ -6,7 +6,7 @@
 use Rattle.std.specs.Prelude.{◌≡◌, ℕ, ◌<◌, ◌≤◌, ◌⊎◌, pos, negsuc, ◌≤ℤ◌, Some, None, Option}
 use Rattle.network.specs.declared.gap.Gap.{Gap}
 use Rattle.network.specs.declared.gap.Owner.{Owner}
-use Rattle.network.specs.declared.gap.OwnerLayer.TheVariants.{Floor}
+use Rattle.network.specs.declared.gap.Owner.TheVariants.{Floor}
 
 -- events are numbered from 0 to `events`, places from 1 to `places`
 pub record Meaning : Type 0 where
@@ -15,9 +15,9 @@ pub record Meaning : Type 0 where
   pub gap : ℕ → Option Gap
   pub owner : ℕ → Owner
 
--- owned by nobody: the floor, with number 0
+-- owned by nobody but the floor
 abbrev pub unowned : Owner
-unowned = record { layer = Floor; number = 0 }
+unowned = Floor
 
 abbrev pub Outside : ℕ → ℕ → Type 0
 Outside places p = (p < 1) ⊎ (places < p)

@@ -8,22 +8,16 @@ pub struct Gap {
     pub days: i64,
 }
 
-/// Where the owner of a place stands: on a line of the book, on a date place of a layer, or nowhere.
+/// The owner of a place: a line of the book, a date place of a layer, or nobody but the floor.
 #[derive(Clone, Copy, PartialEq, Eq, Debug)]
-pub enum OwnerLayer {
-    Book,
-    Dates,
+pub enum Owner {
+    Line(usize),
+    DatePlace(usize),
     Floor,
 }
 
-/// The owner of a place: a layer, and the number of the line or of the date place there.
-#[derive(Clone, Copy, PartialEq, Eq, Debug)]
-pub struct Owner {
-    pub layer: OwnerLayer,
-    pub number: usize,
-}
-
 /// One step of a ring: the place that holds the gap, or 0 where the step is the floor.
+// The floor's step tells place 0 by rule, and any network answers that 0 is the floor's: an Option would be told as 0 again.
 #[derive(Clone, Copy, PartialEq, Eq, Debug)]
 pub struct Step {
     pub place: usize,

@@ -3,7 +3,7 @@
 --     made_of x     the meaning of the network
 use Rattle.std.specs.Prelude.{ℕ, ◌-◌, min, Bool, cond, ◌&&◌, pos, Some, None, nat_le, slice_index_or, unsigned_abs}
 use Rattle.network.specs.declared.gap.Gap.{Gap}
-use Rattle.network.specs.declared.gap.OwnerLayer.TheVariants.{Book}
+use Rattle.network.specs.declared.gap.Owner.TheVariants.{Line}
 use Rattle.network.specs.Meanings.{Meaning, unowned}
 use Rattle.network_cases.specs.declared.gaps.Made.{Made}
 
@@ -21,5 +21,5 @@ made_of x = record {
   events = min x.events 1023;
   places = min x.places 4096;
   gap = λ place. cond (placed place (min x.places 4096) && fits (min x.events 1023) (slice_index_or x.gaps (place - 1) no_gap)) (Some (slice_index_or x.gaps (place - 1) no_gap)) None;
-  owner = λ place. cond (placed place (min x.places 4096)) (record { layer = Book; number = place }) unowned;
+  owner = λ place. cond (placed place (min x.places 4096)) (Line place) unowned;
 }

@@ -1,9 +1,7 @@
 //! The records of a table, numbered from 1.
 
-ghost use Rattle.std.specs.Prelude.{◌≡◌, ℕ, if◌then◌else◌, None};
-ghost use Rattle.book.specs.Calls.{put as replacing};
-ghost use Rattle.book.specs.Rules.{within};
-ghost use Rattle.table.specs.Standing.{standing};
+ghost use Rattle.std.specs.Prelude.{◌≡◌, ℕ, None};
+ghost use Rattle.table.specs.Standing.{standing, changed};
 
 use crate::Table;
 use book::range::is_within;
@@ -29,7 +27,7 @@ impl<T: Copy, const N: usize> Table<T, N> {
 
     /// Changes one record from 1 to `N`; elsewhere nothing changes.
     pub fn put(&mut self, p: usize, stands: Option<T>)
-        ensures { standing self.new ≡ (if within p N then replacing (standing self.old) p stands else standing self.old) }
+        ensures { standing self.new ≡ changed N (standing self.old) p stands }
     {
         if is_within(p, N) {
             let at = p - 1;

@@ -1,6 +1,7 @@
 //! The calls and questions of a dated book: what concerns lines and lower date places goes down.
 
 ghost use Rattle.std.specs.Prelude.{◌≡◌, ◌-◌, ◌<◌, ◌≤◌, None};
+ghost use Rattle.std.specs.Result.{result_err};
 ghost use Rattle.book.specs.declared.refusal.Layer.TheVariants.{Dates};
 ghost use Rattle.book.specs.Calls.{on_date, on_clear, by, answered, with_date, refusal, hears, date as dating, clear as clearing};
 ghost use Rattle.book.specs.Layers.{added};
@@ -19,32 +20,32 @@ use network::network::Network;
 
 impl<B: Book> Dated<B> {
     /// The refusal that meets a dating, if any.
-    fn on_date(&self, q: usize, d: Date) -> Option<Refusal>
-        ensures { result ≡ on_date (layered (B.Book.meaning self.now.below) (standing self.now.own)) q d }
+    fn on_date(&self, q: usize, d: Date) -> Result<(), Refusal>
+        ensures { result_err result ≡ on_date (layered (B.Book.meaning self.now.below) (standing self.now.own)) q d }
     {
         if !is_within(q, self.dates()) {
-            return Some(Refusal::NoSuchDatePlace);
+            return Err(Refusal::NoSuchDatePlace);
         }
         if !is_within(d.event, self.events()) {
-            return Some(Refusal::NoSuchEvent);
+            return Err(Refusal::NoSuchEvent);
         }
         if d.day > LAST_DAY {
-            return Some(Refusal::OutOfRange);
+            return Err(Refusal::OutOfRange);
         }
-        None
+        Ok(())
     }
 
     /// The refusal that meets a clearing, if any.
-    fn on_clear(&self, q: usize) -> Option<Refusal>
-        ensures { result ≡ on_clear (layered (B.Book.meaning self.now.below) (standing self.now.own)) q }
+    fn on_clear(&self, q: usize) -> Result<(), Refusal>
+        ensures { result_err result ≡ on_clear (layered (B.Book.meaning self.now.below) (standing self.now.own)) q }
     {
         if !is_within(q, self.dates()) {
-            return Some(Refusal::NoSuchDatePlace);
+            return Err(Refusal::NoSuchDatePlace);
         }
         if self.date_at(q).is_none() {
-            return Some(Refusal::DatePlaceEmpty);
+            return Err(Refusal::DatePlaceEmpty);
         }
-        None
+        Ok(())
     }
 
     /// A dating of a lower date place: it goes down, and the answer comes up whole.
@@ -69,25 +70,17 @@ impl<B: Book> Dated<B> {
     fn settle(
         &mut self,
         q: usize,
-        verdict: Option<Refusal>,
+        verdict: Result<(), Refusal>,
         stands: Option<Date>,
     ) -> Result<(), Refused>
         requires above { (B.Book.meaning self.old.below).rule.dates < q }
-        requires room { verdict ≡ None → q - (B.Book.meaning self.old.below).rule.dates ≤ added (B.Book.meaning self.old.below).rule.places }
-        ensures answer { told result ≡ by Dates q verdict }
-        ensures after { layered (B.Book.meaning self.new.below) (standing self.new.own) ≡ answered (by Dates q verdict) (with_date (layered (B.Book.meaning self.old.below) (standing self.old.own)) q stands) (layered (B.Book.meaning self.old.below) (standing self.old.own)) }
+        requires room { result_err verdict ≡ None → q - (B.Book.meaning self.old.below).rule.dates ≤ added (B.Book.meaning self.old.below).rule.places }
+        ensures answer { told result ≡ by Dates q (result_err verdict) }
+        ensures after { layered (B.Book.meaning self.new.below) (standing self.new.own) ≡ answered (by Dates q (result_err verdict)) (with_date (layered (B.Book.meaning self.old.below) (standing self.old.own)) q stands) (layered (B.Book.meaning self.old.below) (standing self.old.own)) }
     {
-        match verdict {
-            Some(why) => Err(Refused {
-                why,
-                layer: Layer::Dates,
-                place: q,
-            }),
-            None => {
-                self.own.put(q - self.below.dates(), stands);
-                Ok(())
-            }
-        }
+        verdict.map_err(|why| why.at(Layer::Dates, q))?;
+        self.own.put(q - self.below.dates(), stands);
+        Ok(())
     }
 }
 

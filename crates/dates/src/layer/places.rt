@@ -10,7 +10,7 @@ ghost use Rattle.book.proofs.Layers.{layer_lawful};
 
 use crate::layer::{Dated, asked_gap, in_range, room_over};
 use book::traits::Book;
-use network::gap::{Gap, Owner, OwnerLayer};
+use network::gap::{Gap, Owner};
 use network::network::Network;
 
 impl<B: Book> Dated<B> {
@@ -58,14 +58,8 @@ impl<B: Book> Network for Dated<B> {
             return self.below.owner(place);
         }
         if place - below > room_over(below) {
-            return Owner {
-                layer: OwnerLayer::Floor,
-                number: 0,
-            };
+            return Owner::Floor;
         }
-        Owner {
-            layer: OwnerLayer::Dates,
-            number: self.below.dates() + (place - below),
-        }
+        Owner::DatePlace(self.below.dates() + (place - below))
     }
 }
