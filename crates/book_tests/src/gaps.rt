@@ -6,7 +6,7 @@ use activity::entry::{Activity, Entry, Kind, Relation, Running, Work};
 use book::date::Bound;
 use book::traits::Book;
 use line_book::lines::Lines;
-use network::gap::{Gap, Owner, OwnerLayer};
+use network::gap::{Gap, Owner};
 use network::network::Network;
 
 fn activity(work: Work, running: Running) -> Entry {
@@ -167,23 +167,18 @@ fn places_and_owners(rt: HostRuntime) {
     assert_eq!(rt; book.lines(), 400);
     assert_eq!(rt; book.dates(), 0);
     let cases = [
-        (0, 0),
-        (1, 1),
-        (2, 1),
-        (3, 2),
-        (799, 400),
-        (800, 400),
-        (801, 0),
-        (65_537, 0),
-        (usize::MAX, 0),
+        (0, Owner::Floor),
+        (1, Owner::Line(1)),
+        (2, Owner::Line(1)),
+        (3, Owner::Line(2)),
+        (799, Owner::Line(400)),
+        (800, Owner::Line(400)),
+        (801, Owner::Floor),
+        (65_537, Owner::Floor),
+        (usize::MAX, Owner::Floor),
     ];
-    for (place, number) in cases {
-        let layer = if number == 0 {
-            OwnerLayer::Floor
-        } else {
-            OwnerLayer::Book
-        };
-        assert_eq!(rt; book.owner(place), Owner { layer, number });
+    for (place, owner) in cases {
+        assert_eq!(rt; book.owner(place), owner);
     }
     assert_eq!(rt; book.gap(0), None);
     assert_eq!(rt; book.gap(65_537), None);

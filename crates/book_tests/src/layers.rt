@@ -4,11 +4,11 @@ use crate::cramped::{CrampedBook, Mark};
 use activity::ActivityBook;
 use activity::entry::{Activity, Entry, Running, Work};
 use book::date::{Bound, Date};
-use book::refusal::{Layer, Refusal, answer};
+use book::refusal::{Layer, Refusal};
 use book::traits::Book;
 use dates::layer::Dated;
 use line_book::lines::Lines;
-use network::gap::{Gap, Owner, OwnerLayer};
+use network::gap::{Gap, Owner};
 use network::network::Network;
 
 fn least(event: usize, day: u32) -> Date {
@@ -34,30 +34,26 @@ fn whole(days: u32) -> Entry {
     })
 }
 
-fn dates_owner(number: usize) -> Owner {
-    Owner {
-        layer: OwnerLayer::Dates,
-        number,
-    }
-}
-
 #[test]
 fn dates_are_tested_in_order(rt: HostRuntime) {
     let cases = [
-        (0, most(801, 100_000), Some(Refusal::NoSuchDatePlace)),
-        (65, most(801, 100_000), Some(Refusal::NoSuchDatePlace)),
-        (1, most(801, 100_000), Some(Refusal::NoSuchEvent)),
-        (1, most(0, 0), Some(Refusal::NoSuchEvent)),
-        (64, most(800, 100_000), Some(Refusal::OutOfRange)),
-        (64, most(800, 99_999), None),
-        (1, least(1, 0), None),
+        (0, most(801, 100_000), Err(Refusal::NoSuchDatePlace)),
+        (65, most(801, 100_000), Err(Refusal::NoSuchDatePlace)),
+        (1, most(801, 100_000), Err(Refusal::NoSuchEvent)),
+        (1, most(0, 0), Err(Refusal::NoSuchEvent)),
+        (64, most(800, 100_000), Err(Refusal::OutOfRange)),
+        (64, most(800, 99_999), Ok(())),
+        (1, least(1, 0), Ok(())),
     ];
-    for (q, date, why) in cases {
+    for (q, date, verdict) in cases {
         let mut book = Dated::over(ActivityBook::new());
-        assert_eq!(rt; book.date(q, date), answer(Layer::Dates, q, why));
+        assert_eq!(rt;
+            book.date(q, date),
+            verdict.map_err(|why| why.at(Layer::Dates, q))
+        );
         assert_eq!(rt;
             book.date_at(q),
-            if why.is_none() { Some(date) } else { None }
+            if verdict.is_ok() { Some(date) } else { None }
         );
     }
 }
@@ -67,7 +63,7 @@ fn a_date_is_refilled_and_cleared(rt: HostRuntime) {
     let mut book = Dated::over(ActivityBook::new());
     assert_eq!(rt;
         book.clear(2),
-        answer(Layer::Dates, 2, Some(Refusal::DatePlaceEmpty))
+        Err(Refusal::DatePlaceEmpty.at(Layer::Dates, 2))
     );
     assert_eq!(rt; book.date(2, least(4, 10)), Ok(()));
     assert_eq!(rt;
@@ -89,18 +85,18 @@ fn a_date_is_refilled_and_cleared(rt: HostRuntime) {
     );
     assert_eq!(rt;
         book.date(2, most(801, 11)),
-        answer(Layer::Dates, 2, Some(Refusal::NoSuchEvent))
+        Err(Refusal::NoSuchEvent.at(Layer::Dates, 2))
     );
     assert_eq!(rt; book.date_at(2), Some(most(4, 11)));
     assert_eq!(rt; book.clear(2), Ok(()));
     assert_eq!(rt; book.gap(802), None);
     assert_eq!(rt;
         book.clear(2),
-        answer(Layer::Dates, 2, Some(Refusal::DatePlaceEmpty))
+        Err(Refusal::DatePlaceEmpty.at(Layer::Dates, 2))
     );
     assert_eq!(rt;
         book.clear(65),
-        answer(Layer::Dates, 65, Some(Refusal::NoSuchDatePlace))
+        Err(Refusal::NoSuchDatePlace.at(Layer::Dates, 65))
     );
 }
 
@@ -121,7 +117,7 @@ fn a_pile_of_three_layers(rt: HostRuntime) {
     assert_eq!(rt; three.date_at(129), Some(least(3, 3)));
     assert_eq!(rt;
         three.date(193, least(3, 3)),
-        answer(Layer::Dates, 193, Some(Refusal::NoSuchDatePlace))
+        Err(Refusal::NoSuchDatePlace.at(Layer::Dates, 193))
     );
     assert_eq!(rt; three.strike(9), Ok(()));
     assert_eq!(rt; three.clear(65), Ok(()));
@@ -149,23 +145,23 @@ fn what_is_refused_below_comes_up_whole(rt: HostRuntime) {
     let mut book = Dated::over(Dated::over(ActivityBook::new()));
     assert_eq!(rt;
         book.date(64, most(801, 1)),
-        answer(Layer::Dates, 64, Some(Refusal::NoSuchEvent))
+        Err(Refusal::NoSuchEvent.at(Layer::Dates, 64))
     );
     assert_eq!(rt;
         book.date(0, most(1, 1)),
-        answer(Layer::Dates, 0, Some(Refusal::NoSuchDatePlace))
+        Err(Refusal::NoSuchDatePlace.at(Layer::Dates, 0))
     );
     assert_eq!(rt;
         book.clear(64),
-        answer(Layer::Dates, 64, Some(Refusal::DatePlaceEmpty))
+        Err(Refusal::DatePlaceEmpty.at(Layer::Dates, 64))
     );
     assert_eq!(rt;
         book.enter(7, whole(10_000)),
-        answer(Layer::Book, 7, Some(Refusal::OutOfRange))
+        Err(Refusal::OutOfRange.at(Layer::Book, 7))
     );
     assert_eq!(rt;
         book.alteration(7, whole(1)),
-        answer(Layer::Book, 7, Some(Refusal::LineEmpty))
+        Err(Refusal::LineEmpty.at(Layer::Book, 7))
     );
     assert_eq!(rt; book.enter(7, whole(1)), Ok(()));
     assert_eq!(rt; book.alteration(7, whole(2)), Ok(()));
@@ -174,25 +170,13 @@ fn what_is_refused_below_comes_up_whole(rt: HostRuntime) {
 #[test]
 fn owners_in_a_pile(rt: HostRuntime) {
     let book = Dated::over(Dated::over(ActivityBook::new()));
-    assert_eq!(rt;
-        book.owner(800),
-        Owner {
-            layer: OwnerLayer::Book,
-            number: 400,
-        }
-    );
-    assert_eq!(rt; book.owner(801), dates_owner(1));
-    assert_eq!(rt; book.owner(864), dates_owner(64));
-    assert_eq!(rt; book.owner(865), dates_owner(65));
-    assert_eq!(rt; book.owner(928), dates_owner(128));
+    assert_eq!(rt; book.owner(800), Owner::Line(400));
+    assert_eq!(rt; book.owner(801), Owner::DatePlace(1));
+    assert_eq!(rt; book.owner(864), Owner::DatePlace(64));
+    assert_eq!(rt; book.owner(865), Owner::DatePlace(65));
+    assert_eq!(rt; book.owner(928), Owner::DatePlace(128));
     for place in [0, 929, 65_537, usize::MAX] {
-        assert_eq!(rt;
-            book.owner(place),
-            Owner {
-                layer: OwnerLayer::Floor,
-                number: 0,
-            }
-        );
+        assert_eq!(rt; book.owner(place), Owner::Floor);
         assert_eq!(rt; book.gap(place), None);
     }
 }
@@ -212,17 +196,17 @@ fn little_room_left(rt: HostRuntime) {
             days: -9,
         })
     );
-    assert_eq!(rt; book.owner(4_096), dates_owner(6));
+    assert_eq!(rt; book.owner(4_096), Owner::DatePlace(6));
     assert_eq!(rt;
         book.date(7, most(3, 9)),
-        answer(Layer::Dates, 7, Some(Refusal::NoSuchDatePlace))
+        Err(Refusal::NoSuchDatePlace.at(Layer::Dates, 7))
     );
     let mut full = Dated::over(book);
     assert_eq!(rt; full.dates(), 6);
     assert_eq!(rt; full.places(), 4_096);
     assert_eq!(rt;
         full.date(7, most(3, 9)),
-        answer(Layer::Dates, 7, Some(Refusal::NoSuchDatePlace))
+        Err(Refusal::NoSuchDatePlace.at(Layer::Dates, 7))
     );
     assert_eq!(rt; full.date(6, least(2, 1)), Ok(()));
     assert_eq!(rt;

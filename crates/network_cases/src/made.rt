@@ -5,7 +5,7 @@ ghost use Rattle.network_cases.specs.Made.{fits, made_of};
 ghost use Rattle.std.proofs.Common.{rules, arith};
 
 use crate::gaps::{Made, PLACES};
-use network::gap::{Gap, Owner, OwnerLayer};
+use network::gap::{Gap, Owner};
 use network::network::Network;
 
 /// Whether a network with so many events can have the gap.
@@ -40,15 +40,9 @@ impl Network for Made {
 
     fn owner(&self, place: usize) -> Owner {
         if 1 <= place && place <= self.places.min(PLACES) {
-            Owner {
-                layer: OwnerLayer::Book,
-                number: place,
-            }
+            Owner::Line(place)
         } else {
-            Owner {
-                layer: OwnerLayer::Floor,
-                number: 0,
-            }
+            Owner::Floor
         }
     }
 }

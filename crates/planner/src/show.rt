@@ -4,7 +4,7 @@ use activity::entry::{Activity, Entry, Kind, Relation, Running, Work};
 use arrow::entry::Arrow;
 use book::date::{Bound, Date};
 use book::refusal::{Layer, Refused};
-use network::gap::{Gap, Owner, OwnerLayer};
+use network::gap::{Gap, Owner};
 use std::fmt;
 
 /// A value, to be printed in the words of a plan.
@@ -121,11 +121,10 @@ impl fmt::Display for Words<Result<(), Refused>> {
 
 impl fmt::Display for Words<Owner> {
     fn fmt<W: fmt::Write>(&self, f: &mut fmt::Formatter<W>) -> fmt::Result {
-        let number = self.0.number;
-        match self.0.layer {
-            OwnerLayer::Book => write!(f, "book {number}"),
-            OwnerLayer::Dates => write!(f, "dates {number}"),
-            OwnerLayer::Floor => write!(f, "floor {number}"),
+        match self.0 {
+            Owner::Line(number) => write!(f, "book {number}"),
+            Owner::DatePlace(number) => write!(f, "dates {number}"),
+            Owner::Floor => write!(f, "floor 0"),
         }
     }
 }

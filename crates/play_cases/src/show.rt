@@ -1,7 +1,7 @@
 //! What an issued plan tells, in words.
 
 use book::traits::Book;
-use network::gap::{Owner, OwnerLayer, Step};
+use network::gap::{Owner, Step};
 use network::network::Network;
 use plan::issued::IssuedPlan;
 use sheet::sheet::sheet;
@@ -18,11 +18,10 @@ struct OwnerWords(Owner);
 
 impl fmt::Display for OwnerWords {
     fn fmt<W: fmt::Write>(&self, f: &mut fmt::Formatter<W>) -> fmt::Result {
-        let number = self.0.number;
-        match self.0.layer {
-            OwnerLayer::Book => write!(f, "line {number}"),
-            OwnerLayer::Dates => write!(f, "date place {number}"),
-            OwnerLayer::Floor => write!(f, "the floor"),
+        match self.0 {
+            Owner::Line(number) => write!(f, "line {number}"),
+            Owner::DatePlace(number) => write!(f, "date place {number}"),
+            Owner::Floor => write!(f, "the floor"),
         }
     }
 }

@@ -3,8 +3,8 @@
 --     shown f           the bytes of the form f
 use Rattle.std.specs.Prelude.{ℕ, ◌-◌, List, ◌++◌, codes, decimal}
 use Rattle.std.specs.Fmt.{signed_decimal}
-use Rattle.network.specs.declared.gap.OwnerLayer.{OwnerLayer}
-use Rattle.network.specs.declared.gap.OwnerLayer.TheVariants.{Book, Dates, Floor}
+use Rattle.network.specs.declared.gap.Owner.{Owner}
+use Rattle.network.specs.declared.gap.Owner.TheVariants as owner
 use Rattle.sheet_forms.specs.declared.form.Window.{Window}
 use Rattle.sheet_forms.specs.declared.form.Row.{Row}
 use Rattle.sheet_forms.specs.declared.form.OwnedStep.{OwnedStep}
@@ -27,13 +27,19 @@ floats_text r = decimal (float_of r.start) ++ (codes " " ++ (decimal (float_of r
 abbrev pub row_text : Row → List ℕ
 row_text r = codes "(line " ++ (decimal r.line ++ (codes " (start " ++ (window_text r.start ++ (codes ") (finish " ++ (window_text r.finish ++ (codes ") (float " ++ (floats_text r ++ codes "))\n")))))))
 
-abbrev pub layer_text : OwnerLayer → List ℕ
-layer_text Book = codes "book"
-layer_text Dates = codes "dates"
-layer_text Floor = codes "floor"
+-- the layer of an owner, and its number there; the floor has number 0
+abbrev pub layer_text : Owner → List ℕ
+layer_text (owner.Line n) = codes "book"
+layer_text (owner.DatePlace n) = codes "dates"
+layer_text owner.Floor = codes "floor"
+
+abbrev pub number_of : Owner → ℕ
+number_of (owner.Line n) = n
+number_of (owner.DatePlace n) = n
+number_of owner.Floor = 0
 
 abbrev pub step_text : OwnedStep → List ℕ
-step_text s = codes "(step " ++ (layer_text s.owner.layer ++ (codes " " ++ (decimal s.owner.number ++ (codes " " ++ (decimal s.gap.left ++ (codes " " ++ (decimal s.gap.reached ++ (codes " " ++ (signed_decimal s.gap.days ++ codes ")\n")))))))))
+step_text s = codes "(step " ++ (layer_text s.owner ++ (codes " " ++ (decimal (number_of s.owner) ++ (codes " " ++ (decimal s.gap.left ++ (codes " " ++ (decimal s.gap.reached ++ (codes " " ++ (signed_decimal s.gap.days ++ codes ")\n")))))))))
 
 abbrev pub refuser : Layer → List ℕ
 refuser by.Text = codes "text"

@@ -1,14 +1,14 @@
 //! The bytes of each form.
 
 ghost use Rattle.std.specs.Prelude.{◌≡◌, ◌+◌, ◌≤◌, ◌++◌, length, codes, decimal};
-ghost use Rattle.sheet_forms.specs.Shown.{shown, row_text, step_text, layer_text, float_of, floats_text, refuser, refused_text};
+ghost use Rattle.sheet_forms.specs.Shown.{shown, row_text, step_text, layer_text, number_of, float_of, floats_text, refuser, refused_text};
 ghost use Rattle.book.specs.Refusals.{number};
 ghost use Rattle.sheet_forms.specs.Texts.{text_of};
 
 use crate::form::{OwnedStep, Row, SheetForm, TextRefusal, Window};
 use crate::text::FormText;
 use book::refusal::Layer;
-use network::gap::OwnerLayer;
+use network::gap::Owner;
 
 /// A word and a number.
 fn counted(word: &[u8], n: u64) -> FormText
@@ -30,13 +30,23 @@ pub(crate) fn float_of(window: Window) -> u64
 }
 
 /// The layer of an owner.
-pub(crate) fn layer_name(layer: OwnerLayer) -> &'static [u8]
-    ensures { result.now ≡ layer_text layer }
+pub(crate) fn layer_name(owner: Owner) -> &'static [u8]
+    ensures { result.now ≡ layer_text owner }
 {
-    match layer {
-        OwnerLayer::Book => b"book",
-        OwnerLayer::Dates => b"dates",
-        OwnerLayer::Floor => b"floor",
+    match owner {
+        Owner::Line(_) => b"book",
+        Owner::DatePlace(_) => b"dates",
+        Owner::Floor => b"floor",
+    }
+}
+
+/// The number of an owner in its layer; the floor has 0.
+pub(crate) fn number_of(owner: Owner) -> u64
+    ensures { result ≡ number_of owner }
+{
+    match owner {
+        Owner::Line(number) | Owner::DatePlace(number) => number as u64,
+        Owner::Floor => 0,
     }
 }
 
@@ -105,9 +115,9 @@ fn step_text(step: OwnedStep) -> FormText
 {
     let mut text = FormText::blank();
     text.push(b"(step ");
-    text.push(layer_name(step.owner.layer));
+    text.push(layer_name(step.owner));
     text.push(b" ");
-    text.number(step.owner.number as u64);
+    text.number(number_of(step.owner));
     text.push(b" ");
     text.number(step.gap.left as u64);
     text.push(b" ");

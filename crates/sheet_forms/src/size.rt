@@ -6,7 +6,7 @@ ghost use Rattle.book.specs.Refusals.{number};
 ghost use Rattle.sheet_forms.specs.Shown.{shown, layer_text, window_text, floats_text, row_text, step_text, refused_text};
 
 use crate::form::{OwnedStep, Row, SheetForm, TextRefusal, Window};
-use crate::shown::{float_of, layer_name, refuser_name};
+use crate::shown::{float_of, layer_name, number_of, refuser_name};
 
 /// How many digits a number has.
 fn figure_count(n: u64) -> usize
@@ -63,8 +63,8 @@ fn row_size(row: Row) -> usize
 fn step_size(step: OwnedStep) -> usize
     ensures { result ≡ length (step_text step) }
 {
-    let layer = layer_name(step.owner.layer).len();
-    let number = figure_count(step.owner.number as u64);
+    let layer = layer_name(step.owner).len();
+    let number = figure_count(number_of(step.owner));
     let left = figure_count(step.gap.left as u64);
     let reached = figure_count(step.gap.reached as u64);
     6 + layer + 1 + number + 1 + left + 1 + reached + 1 + days_size(step.gap.days) + 2
