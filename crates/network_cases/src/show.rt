@@ -4,7 +4,6 @@ use crate::gaps::Made;
 use network::gap::Gap;
 use network::network::Network;
 use solver::ring::Ring;
-use solver::solution::Solution;
 use solver::solve::solve;
 use solver::times::Times;
 use std::io;
@@ -73,14 +72,14 @@ fn days_of(ring: &Ring) -> i64 {
 /// Solves a network and prints the length and every window, or the ring.
 pub fn print_all(rt: &HostRuntime, network: &Made) -> io::Result<()> {
     match solve(network) {
-        Solution::Sound(times) => {
+        Ok(times) => {
             let length = times.length();
             println!(rt; "  {length} days")?;
             for event in 0..=times.events() {
                 print_window(rt, &times, event)?;
             }
         }
-        Solution::Contradictory(ring) => {
+        Err(ring) => {
             for n in 1..=ring.steps() {
                 print_step(rt, &ring, n)?;
             }
@@ -92,14 +91,14 @@ pub fn print_all(rt: &HostRuntime, network: &Made) -> io::Result<()> {
 /// Solves a network and prints the length with the first windows and the last, or the size of the ring.
 pub fn print_ends(rt: &HostRuntime, network: &Made) -> io::Result<()> {
     match solve(network) {
-        Solution::Sound(times) => {
+        Ok(times) => {
             let length = times.length();
             println!(rt; "  {length} days")?;
             print_window(rt, &times, 0)?;
             print_window(rt, &times, 1)?;
             print_window(rt, &times, times.events())?;
         }
-        Solution::Contradictory(ring) => {
+        Err(ring) => {
             let (steps, days) = (ring.steps(), days_of(&ring));
             println!(rt; "  a ring of {steps} steps, {days} days")?;
             print_step(rt, &ring, 1)?;

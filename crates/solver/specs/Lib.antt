@@ -1,7 +1,7 @@
 pub mod Arcs
 pub mod Rising
 pub mod Walks
-pub mod Outcomes
 pub mod RingSteps
+pub mod Outcomes
 pub mod Falling
 pub mod Solutions

@@ -1,10 +1,9 @@
 -- What the solver answers: right windows, or a ring that proves that there is no schedule. Assumes nothing.
-use Rattle.std.specs.Prelude.{◌≡◌, ℕ}
+use Rattle.std.specs.Prelude.{◌≡◌, ℕ, Ok, Err, Result}
 use Rattle.network.specs.Meanings.{Meaning}
 use Rattle.network.specs.Schedules as schedules
 use Rattle.network.specs.Rings as rings
-use Rattle.solver.specs.declared.solution.Solution.{Solution}
-use Rattle.solver.specs.declared.solution.Solution.TheVariants.{Sound, Contradictory}
+use Rattle.solver.specs.declared.ring.Ring.{Ring}
 use Rattle.solver.specs.declared.times.Times.{Times}
 use Rattle.solver.specs.Rising.{time_at}
 use Rattle.solver.specs.RingSteps.{ring_steps}
@@ -26,6 +25,6 @@ pub record Windows (m : Meaning) (ts : Times) : Type 0 where
   pub events : ts.events ≡ m.events
   pub sound : schedules.Sound m (earliest_of ts) (latest_of ts) ts.length
 
-abbrev pub Solved : Meaning → Solution → Type 0
-Solved m (Sound ts) = Windows m ts
-Solved m (Contradictory ring) = rings.Contradictory m (ring_steps ring)
+abbrev pub Solved : Meaning → Result Times Ring → Type 0
+Solved m (Ok ts) = Windows m ts
+Solved m (Err ring) = rings.Contradictory m (ring_steps ring)

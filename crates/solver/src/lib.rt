@@ -8,6 +8,5 @@ mod fall;
 mod order;
 pub mod ring;
 mod rise;
-pub mod solution;
 pub mod solve;
 pub mod times;

@@ -2,7 +2,7 @@
 //! It is only a hint: nothing is known of it, and no answer rests on it.
 
 use crate::arcs::Arcs;
-use crate::order::lists::{Lists, at, leaving, write};
+use crate::order::lists::{Lists, leaving, write};
 use crate::order::parts::{Parts, parts_both_ways};
 
 mod lists;
@@ -10,6 +10,7 @@ mod parts;
 mod visit;
 
 /// Indices of arcs, in the order in which to look at them. An arc stands in it once or twice.
+// a table of fixed size with its length beside: the engine has no heap, and it is filled where it stands
 #[derive(Drop)]
 pub(crate) struct Order {
     pub indices: [u16; 8192],
@@ -25,28 +26,13 @@ impl Order {
         }
     }
 
-    /// Adds the arcs that leave an event.
-    fn add_event(&mut self, leaving: &Lists, event: usize) {
-        let mut cursor = at(&leaving.heads, event);
-        for _ in 0..4096 {
-            if cursor == 0 {
-                break;
-            }
-            write(&mut self.indices, self.count, cursor - 1);
-            self.count = self.count.saturating_add(1);
-            cursor = at(&leaving.nexts, cursor - 1);
-        }
-    }
-
     /// Adds the arcs that leave the events of a part.
-    fn add_part(&mut self, leaving: &Lists, parts: &Parts, part: usize) {
-        let mut event = at(&parts.firsts, part);
-        for _ in 0..1024 {
-            if event == 0 {
-                break;
+    fn add_part(&mut self, leaving: &Lists<4096>, parts: &Parts, part: usize) {
+        for event in parts.members(part) {
+            for arc in leaving.members(event) {
+                write(&mut self.indices, self.count, arc);
+                self.count = self.count.saturating_add(1);
             }
-            self.add_event(leaving, event - 1);
-            event = at(&parts.nexts, event - 1);
         }
     }
 
@@ -56,7 +42,7 @@ impl Order {
     pub(crate) fn follow(&mut self, arcs: &Arcs) {
         let leaving = leaving(arcs);
         let (there, back) = parts_both_ways(arcs, &leaving);
-        for part in 0..arcs.events + 1 {
+        for part in 0..=arcs.events {
             self.add_part(&leaving, &there, part);
             if there.has_many(part) {
                 self.add_part(&leaving, &back, part);

@@ -14,17 +14,6 @@ pub(crate) use crate::rise::longest::longest;
 /// How many events a network can have, event 0 included.
 pub(crate) const EVENTS: usize = 1024;
 
-/// How a rise ends.
-#[derive(Clone, Copy)]
-pub(crate) enum Settled {
-    /// Every arc is met.
-    Rest,
-    /// Event 0 is raised.
-    Lifted,
-    /// The event is on a ring of parents.
-    Ring(usize),
-}
-
 /// The times of the events, and for each event the arc that last raised it, counted from 1, or 0.
 #[derive(Drop)]
 pub(crate) struct Rise {

@@ -1,74 +1,108 @@
-//! Tables of small numbers, and the arcs of each event as lists in such tables.
+//! Tables of small numbers, and lists in such tables: the arcs of each event, and the events of each part.
 
+ghost use Rattle.std.specs.Iterator.{at_most};
+
+use crate::arc::Arc;
 use crate::arcs::Arcs;
 
 /// What stands at an index, or 0.
-pub(crate) fn at<const N: usize>(table: &[u16; N], index: usize) -> usize {
-    if index < N {
-        usize::from(table[index])
-    } else {
-        0
-    }
+pub(crate) fn at(table: &[u16], index: usize) -> usize {
+    table.get(index).map_or(0, |value| usize::from(*value))
 }
 
 /// Writes at an index, where there is one. No index of an arc or an event, counted from 1, is more than 4,096.
-pub(crate) fn write<const N: usize>(table: &mut [u16; N], index: usize, value: usize) {
-    if index < N {
-        table[index] = value.min(4_096) as u16;
+pub(crate) fn write(table: &mut [u16], index: usize, value: usize) {
+    if let Some(place) = table.get_mut(index) {
+        *place = value.min(4_096) as u16;
     }
 }
 
-/// For each event a list of arcs: an index counted from 1, or 0 at the end.
+/// For each event, or each part, a list of numbers from 0 to N - 1: each with the next one, counted from 1, or 0 at the end.
+// lists in two tables, with 0 and not an Option: the engine has no heap, and an Option takes twice the stack
 #[derive(Drop)]
-pub(crate) struct Lists {
+pub(crate) struct Lists<const N: usize> {
     pub heads: [u16; 1024],
-    pub nexts: [u16; 4096],
+    pub nexts: [u16; N],
 }
 
-impl Lists {
-    /// A list with no arcs for each event.
-    fn none() -> Lists {
+impl<const N: usize> Lists<N> {
+    /// Each list without members.
+    pub(crate) fn none() -> Lists<N> {
         Lists {
             heads: [0; 1024],
-            nexts: [0; 4096],
+            nexts: [0; N],
         }
     }
 
-    /// Puts an arc on the list of an event.
-    fn add(&mut self, event: u16, k: usize) {
-        let event = usize::from(event);
-        write(&mut self.nexts, k, at(&self.heads, event));
-        write(&mut self.heads, event, k.saturating_add(1));
+    /// Puts a number at the head of a list.
+    pub(crate) fn add(&mut self, list: usize, member: usize) {
+        write(&mut self.nexts, member, at(&self.heads, list));
+        write(&mut self.heads, list, member.saturating_add(1));
     }
+
+    /// The members of a list, the one that was put there last first.
+    pub(crate) fn members(&self, list: usize) -> Members<'_, N> {
+        Members {
+            nexts: &self.nexts,
+            cursor: at(&self.heads, list),
+            left: N,
+        }
+    }
+
+    /// Whether a list has more than one member.
+    pub(crate) fn has_many(&self, list: usize) -> bool {
+        self.members(list).nth(1).is_some()
+    }
+}
+
+/// The members of a list that are still to come, at most `left`: the next one counted from 1, or 0 at the end.
+#[derive(Drop)]
+pub(crate) struct Members<'a, const N: usize> {
+    nexts: &'a [u16],
+    cursor: usize,
+    left: usize,
+}
+
+impl<'a, const N: usize> Iterator for Members<'a, N> {
+    type Item = usize;
+
+    ghost remaining = { λ s. at_most s.left };
+
+    fn next(&mut self) -> Option<usize> {
+        if self.left == 0 {
+            return None;
+        }
+        let member = self.cursor.checked_sub(1)?;
+        self.cursor = at(self.nexts, member);
+        self.left -= 1;
+        Some(member)
+    }
+}
+
+/// The arcs for which there is an event, each on the list of its event.
+fn listed<F: Fn(&Arc) -> Option<u16>>(arcs: &Arcs, event_of: F) -> Lists<4096>
+    requires { F.IsAlwaysCallable event_of }
+{
+    let mut lists = Lists::none();
+    for (k, arc) in arcs.arcs[..arcs.count].iter().enumerate() {
+        if let Some(event) = event_of(arc) {
+            lists.add(usize::from(event), k);
+        }
+    }
+    lists
 }
 
 /// The arcs that leave each event.
-pub(crate) fn leaving(arcs: &Arcs) -> Lists {
-    let mut lists = Lists::none();
-    for k in 0..arcs.count {
-        lists.add(arcs.arcs[k].left, k);
-    }
-    lists
+pub(crate) fn leaving(arcs: &Arcs) -> Lists<4096> {
+    listed(arcs, |arc| Some(arc.left))
 }
 
 /// The arcs of no negative days that leave each event.
-pub(crate) fn onward(arcs: &Arcs) -> Lists {
-    let mut lists = Lists::none();
-    for k in 0..arcs.count {
-        if arcs.arcs[k].down == 0 {
-            lists.add(arcs.arcs[k].left, k);
-        }
-    }
-    lists
+pub(crate) fn onward(arcs: &Arcs) -> Lists<4096> {
+    listed(arcs, |arc| (arc.down == 0).then_some(arc.left))
 }
 
 /// The arcs that reach each event but event 0. Event 0 stays at 0, so that what reaches it leads no further.
-pub(crate) fn reaching(arcs: &Arcs) -> Lists {
-    let mut lists = Lists::none();
-    for k in 0..arcs.count {
-        if arcs.arcs[k].reached > 0 {
-            lists.add(arcs.arcs[k].reached, k);
-        }
-    }
-    lists
+pub(crate) fn reaching(arcs: &Arcs) -> Lists<4096> {
+    listed(arcs, |arc| (arc.reached > 0).then_some(arc.reached))
 }

@@ -5,6 +5,7 @@ use crate::arcs::Arcs;
 use crate::order::lists::{Lists, at, write};
 
 /// How far the list of each event is followed, which events are seen, which are on the way and which are left.
+// tables of fixed size with their lengths beside: the engine has no heap, and they are filled where they stand
 #[derive(Drop)]
 pub(crate) struct Visit {
     cursors: [u16; 1024],
@@ -16,7 +17,7 @@ pub(crate) struct Visit {
 }
 
 /// The event at the other end of an arc.
-fn other_end(arc: Arc, event: usize) -> usize {
+fn other_end(arc: &Arc, event: usize) -> usize {
     let left = usize::from(arc.left);
     if left == event {
         usize::from(arc.reached)
@@ -27,7 +28,7 @@ fn other_end(arc: Arc, event: usize) -> usize {
 
 impl Visit {
     /// No event is seen yet, and each list is at its beginning.
-    pub(crate) fn over(lists: &Lists) -> Visit {
+    pub(crate) fn over(lists: &Lists<4096>) -> Visit {
         let cursors = lists.heads;
         Visit {
             cursors,
@@ -37,6 +38,11 @@ impl Visit {
             left: [0; 1024],
             done: 0,
         }
+    }
+
+    /// Whether an event is seen.
+    pub(crate) fn has_seen(&self, event: usize) -> bool {
+        at(&self.seen, event) > 0
     }
 
     /// Marks an event as seen, and goes on from it.
@@ -53,9 +59,16 @@ impl Visit {
         self.depth = self.depth.saturating_sub(1);
     }
 
+    /// Takes up the next arc of an event.
+    fn take_arc(&mut self, lists: &Lists<4096>, event: usize) -> Option<usize> {
+        let k = at(&self.cursors, event).checked_sub(1)?;
+        write(&mut self.cursors, event, at(&lists.nexts, k));
+        Some(k)
+    }
+
     /// Visits the events that arcs lead to from an event, where they are not seen yet. Marks each as it is come upon, and
     /// lists each as it is left.
-    pub(crate) fn go(&mut self, arcs: &Arcs, lists: &Lists, first: usize, mark: usize) {
+    pub(crate) fn go(&mut self, arcs: &Arcs, lists: &Lists<4096>, first: usize, mark: usize) {
         self.enter(first, mark);
         // every step leaves an event or takes up an arc
         for _ in 0..5_120 {
@@ -63,14 +76,14 @@ impl Visit {
                 break;
             }
             let here = at(&self.way, self.depth - 1);
-            let cursor = at(&self.cursors, here);
-            if cursor == 0 || cursor > 4096 {
-                self.leave(here);
-            } else {
-                write(&mut self.cursors, here, at(&lists.nexts, cursor - 1));
-                let next = other_end(arcs.arcs[cursor - 1], here);
-                if at(&self.seen, next) == 0 {
-                    self.enter(next, mark);
+            let taken = self.take_arc(lists, here);
+            match taken.and_then(|k| arcs.arcs.get(k)) {
+                None => self.leave(here),
+                Some(arc) => {
+                    let next = other_end(arc, here);
+                    if !self.has_seen(next) {
+                        self.enter(next, mark);
+                    }
                 }
             }
         }
@@ -80,28 +93,26 @@ impl Visit {
 /// The numbers of the events.
 pub(crate) fn by_number() -> [u16; 1024] {
     let mut events = [0; 1024];
-    for event in 0..1024 {
-        write(&mut events, event, event);
+    for (event, place) in (0..1024).zip(events.iter_mut()) {
+        *place = event;
     }
     events
 }
 
 /// The events the other way round.
 pub(crate) fn turned(arcs: &Arcs, events: &[u16; 1024]) -> [u16; 1024] {
-    let mut others = [0; 1024];
-    for turn in 0..arcs.events + 1 {
-        write(&mut others, turn, at(events, arcs.events - turn));
-    }
+    let mut others = *events;
+    others[..=arcs.events].reverse();
     others
 }
 
 /// The events, each after those to which arcs lead from it, but for arcs that lead back. The visit begins at the first of
 /// `begins`, and then at each that is not seen yet.
-pub(crate) fn left_in_turn(arcs: &Arcs, lists: &Lists, begins: &[u16; 1024]) -> [u16; 1024] {
+pub(crate) fn left_in_turn(arcs: &Arcs, lists: &Lists<4096>, begins: &[u16; 1024]) -> [u16; 1024] {
     let mut visit = Visit::over(lists);
-    for turn in 0..arcs.events + 1 {
-        let first = at(begins, turn);
-        if at(&visit.seen, first) == 0 {
+    for first in &begins[..=arcs.events] {
+        let first = usize::from(*first);
+        if !visit.has_seen(first) {
             visit.go(arcs, lists, first, 1);
         }
     }

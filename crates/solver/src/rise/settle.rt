@@ -8,12 +8,13 @@ ghost use Rattle.solver.specs.Outcomes.{Outcome};
 
 use crate::arcs::Arcs;
 use crate::order::{Order, hinted_in, owed_after};
-use crate::rise::{Rise, Settled};
+use crate::rise::Rise;
 
 impl Rise {
-    /// Raises times until every arc is met, or until there is a ring among the parents, or event 0 is raised.
+    /// Raises times until every arc is met. Stops where no times meet them all: the error is the event from which a ring
+    /// is read, which is on a ring of parents, or is event 0, and raised.
     /// The order is only a hint: the sweep that changes nothing goes over every arc.
-    pub(crate) fn settle(&mut self, arcs: &Arcs, order: &Order) -> Settled
+    pub(crate) fn settle(&mut self, arcs: &Arcs, order: &Order) -> Result<(), usize>
         requires risen { Risen arcs.now.arcs arcs.now.count arcs.now.events self.old.times self.old.parents }
         requires bound { greatest (time_at self.old.times) arcs.now.events ≤ 204800000 }
         ensures { Outcome arcs.now.arcs arcs.now.count arcs.now.events self.old.times self.old.parents self.new.times self.new.parents result }
@@ -23,13 +24,13 @@ impl Rise {
             self.push(arcs, order, hinted_in(passes, order));
             let changed = self.sweep(arcs);
             if let Some(r) = self.look(arcs) {
-                return Settled::Ring(r);
+                return Err(r);
             }
             if self.times[0] > 0 {
-                return Settled::Lifted;
+                return Err(0);
             }
             if !changed {
-                return Settled::Rest;
+                return Ok(());
             }
             passes = owed_after(passes);
         }

@@ -1,4 +1,4 @@
-use Rattle.std.proofs.Common.{arith}
+use Rattle.std.proofs.Common.{refl, inl, inr, arith}
 use Rattle.solver.specs.Rising.{time_at}
 use Rattle.solver.proofs.Settling.{slack_falls, early, all_early}
 use Rattle.solver.proofs.rise.Rise.settle.Goals as goal
@@ -49,12 +49,13 @@ returns-then-not-changed c =
 pub returns-in-Some : goal.returns-in-Some
 returns-in-Some c = record {
   carries = λ start was. c.sweep-changed.ensures.rising start (c.push.ensures.rising start (c.loop-r.invariant.0 start was));
-  ring = c.in-Some.ensures;
+  inside = c.in-Some.ensures.inside;
+  ends = inl c.in-Some.ensures;
 }
 
 pub returns-then-self-gt0 : goal.returns-then-self-gt0
 returns-then-self-gt0 c = record {
   carries = λ start was. c.sweep-changed.ensures.rising start (c.push.ensures.rising start (c.loop-r.invariant.0 start was));
-  first = omega arith;
-  rooted = c.in_default.ensures 0 (omega arith);
+  inside = omega arith;
+  ends = inr (refl, (omega arith, c.in_default.ensures 0 (omega arith)));
 }
