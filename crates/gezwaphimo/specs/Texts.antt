@@ -52,11 +52,10 @@ module _ {E : Type 0} (span_of : E → ℕ → Option Span) (entry_of : Item →
   Carried m (f ∷ fs) n = Done m f (λ k. Carried k fs n)
 
   pub record Sheeted (m : BookMeaning E) (bytes : List ℕ) : Type 0 where
-    pub times : Times
-    pub ring : Option Ring
-    pub right : Right (network_of m) times ring
+    pub outcome : Result Times Ring
+    pub right : Right (network_of m) outcome
     pub forms : List SheetForm
-    pub sheet : SheetOf span_of m times ring forms
+    pub sheet : SheetOf span_of m outcome forms
     pub is : bytes ≡ rendered forms
 
   pub data Ending (m : BookMeaning E) (line : ℕ) (tail bytes : List ℕ) : Type 0 where

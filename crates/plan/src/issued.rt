@@ -1,11 +1,13 @@
 //! A plan whose times are computed, to be read.
 
-ghost use Rattle.std.specs.Prelude.{◌≡◌, not, is_some};
+ghost use Rattle.std.specs.Prelude.{◌≡◌, is_ok};
+ghost use Rattle.std.specs.Fn.{FnOnceReturnsAt};
 ghost use Rattle.solver.specs.Solutions.{earliest_of, latest_of};
 ghost use Rattle.book.specs.Calls.{look as looking};
 ghost use Rattle.book.specs.Past.{InStep};
 ghost use Rattle.book.specs.Refusals.{told};
-ghost use Rattle.plan.specs.Readings.{refused_at, time_read, of_sound, step_count, step_read, time_told, sound_told, step_told};
+ghost use Rattle.book.specs.Rules.{network_of};
+ghost use Rattle.plan.specs.Readings.{refused_at, time_read, TimeBy, of_sound, step_count, step_read, time_told, sound_told, step_told, StaysInStep};
 
 use crate::open::OpenPlan;
 use book::refusal::{Layer, Refusal, Refused};
@@ -14,12 +16,11 @@ use network::gap::Step;
 use solver::ring::Ring;
 use solver::times::Times;
 
-/// A plan over a book, with its times and, where it is contradictory, a ring.
+/// A plan over a book, with its times, or the ring for which it has none.
 #[derive(Drop)]
 pub struct IssuedPlan<B: Book> {
     pub(crate) book: B,
-    pub(crate) times: Times,
-    pub(crate) ring: Option<Ring>,
+    pub(crate) outcome: Result<Times, Ring>,
 }
 
 /// A reading that the plan refuses.
@@ -43,73 +44,76 @@ impl<B: Book> IssuedPlan<B> {
 
     /// Whether the plan has a schedule.
     pub fn is_sound(&self) -> bool
-        ensures answer { result ≡ not (is_some self.now.ring) }
-        ensures past { InStep (B.Book.meaning self.now.book) (B.Book.meaning self.now.book) looking }
+        ensures answer { result ≡ is_ok self.now.outcome }
+        ensures past { StaysInStep (B.Book.meaning self.now.book) }
     {
-        self.ring.is_none()
+        self.outcome.is_ok()
+    }
+
+    /// A time of an event, as it is read off the times: refused first where there is no such event, then where the plan has
+    /// no times.
+    fn time<F: FnOnce(&Times) -> Option<u32>>(&self, event: usize, read: F) -> Result<u32, Refused>
+        requires { F.IsAlwaysCallable read }
+        ensures { TimeBy self.now.outcome (network_of (B.Book.meaning self.now.book)).events (FnOnceReturnsAt F.FnOnce read) event result }
+    {
+        match &self.outcome {
+            Ok(times) => read(times).ok_or(refused(Refusal::NoSuchEvent, event)),
+            Err(_) if event > self.book.events() => Err(refused(Refusal::NoSuchEvent, event)),
+            Err(_) => Err(refused(Refusal::Contradictory, event)),
+        }
     }
 
     /// The earliest time of an event.
     pub fn earliest(&self, event: usize) -> Result<u32, Refused>
-        ensures answer { result ≡ time_read self.now.ring self.now.times.events (earliest_of self.now.times) event }
-        ensures refused { told result ≡ time_told self.now.ring self.now.times.events event }
-        ensures past { InStep (B.Book.meaning self.now.book) (B.Book.meaning self.now.book) looking }
+        ensures answer { result ≡ time_read self.now.outcome (network_of (B.Book.meaning self.now.book)).events earliest_of event }
+        ensures refused { told result ≡ time_told self.now.outcome (network_of (B.Book.meaning self.now.book)).events event }
+        ensures past { StaysInStep (B.Book.meaning self.now.book) }
     {
-        match self.times.earliest(event) {
-            None => Err(refused(Refusal::NoSuchEvent, event)),
-            Some(_) if self.ring.is_some() => Err(refused(Refusal::Contradictory, event)),
-            Some(time) => Ok(time),
-        }
+        self.time(event, |times| times.earliest(event))
     }
 
     /// The latest time of an event.
     pub fn latest(&self, event: usize) -> Result<u32, Refused>
-        ensures answer { result ≡ time_read self.now.ring self.now.times.events (latest_of self.now.times) event }
-        ensures refused { told result ≡ time_told self.now.ring self.now.times.events event }
-        ensures past { InStep (B.Book.meaning self.now.book) (B.Book.meaning self.now.book) looking }
+        ensures answer { result ≡ time_read self.now.outcome (network_of (B.Book.meaning self.now.book)).events latest_of event }
+        ensures refused { told result ≡ time_told self.now.outcome (network_of (B.Book.meaning self.now.book)).events event }
+        ensures past { StaysInStep (B.Book.meaning self.now.book) }
     {
-        match self.times.latest(event) {
-            None => Err(refused(Refusal::NoSuchEvent, event)),
-            Some(_) if self.ring.is_some() => Err(refused(Refusal::Contradictory, event)),
-            Some(time) => Ok(time),
-        }
+        self.time(event, |times| times.latest(event))
     }
 
     /// The length.
     pub fn length(&self) -> Result<u32, Refused>
-        ensures answer { result ≡ of_sound self.now.ring self.now.times.length 0 }
-        ensures refused { told result ≡ sound_told self.now.ring 0 }
-        ensures past { InStep (B.Book.meaning self.now.book) (B.Book.meaning self.now.book) looking }
+        ensures answer { result ≡ of_sound self.now.outcome (λ ts. ts.length) 0 }
+        ensures refused { told result ≡ sound_told self.now.outcome 0 }
+        ensures past { StaysInStep (B.Book.meaning self.now.book) }
     {
-        if self.ring.is_some() {
-            return Err(refused(Refusal::Contradictory, 0));
+        match &self.outcome {
+            Ok(times) => Ok(times.length()),
+            Err(_) => Err(refused(Refusal::Contradictory, 0)),
         }
-        Ok(self.times.length())
     }
 
     /// How many steps the ring has; none where the plan is sound.
     pub fn ring_steps(&self) -> usize
-        ensures answer { result ≡ step_count self.now.ring }
-        ensures past { InStep (B.Book.meaning self.now.book) (B.Book.meaning self.now.book) looking }
+        ensures answer { result ≡ step_count self.now.outcome }
+        ensures past { StaysInStep (B.Book.meaning self.now.book) }
     {
-        match &self.ring {
-            Some(ring) => ring.steps(),
-            None => 0,
+        match &self.outcome {
+            Ok(_) => 0,
+            Err(ring) => ring.steps(),
         }
     }
 
     /// A step of the ring, numbered from 1.
     pub fn ring_step(&self, n: usize) -> Result<Step, Refused>
-        ensures answer { result ≡ step_read self.now.ring n }
-        ensures refused { told result ≡ step_told self.now.ring n }
-        ensures past { InStep (B.Book.meaning self.now.book) (B.Book.meaning self.now.book) looking }
+        ensures answer { result ≡ step_read self.now.outcome n }
+        ensures refused { told result ≡ step_told self.now.outcome n }
+        ensures past { StaysInStep (B.Book.meaning self.now.book) }
     {
-        let Some(ring) = &self.ring else {
-            return Err(refused(Refusal::NoSuchStep, n));
-        };
-        match ring.step(n) {
-            Some(step) => Ok(step),
-            None => Err(refused(Refusal::NoSuchStep, n)),
+        let no_step = refused(Refusal::NoSuchStep, n);
+        match &self.outcome {
+            Ok(_) => Err(no_step),
+            Err(ring) => ring.step(n).ok_or(no_step),
         }
     }
 
@@ -118,11 +122,7 @@ impl<B: Book> IssuedPlan<B> {
         ensures book { result.book ≡ self.book }
         ensures past { InStep (B.Book.meaning self.book) (B.Book.meaning result.book) looking }
     {
-        let IssuedPlan {
-            book,
-            times: _,
-            ring: _,
-        } = self;
+        let IssuedPlan { book, outcome: _ } = self;
         OpenPlan { book }
     }
 }

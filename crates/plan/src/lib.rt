@@ -4,4 +4,3 @@
 
 pub mod issued;
 pub mod open;
-mod verdict;

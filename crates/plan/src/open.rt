@@ -8,10 +8,13 @@ ghost use Rattle.book.specs.Rules.{network_of};
 ghost use Rattle.plan.specs.Issues.{Right, RightAfter};
 
 use crate::issued::IssuedPlan;
-use crate::verdict::{Verdict, judged};
 use book::date::Date;
 use book::refusal::Refused;
 use book::traits::Book;
+use solver::solve::solve;
+
+// The calls' clauses name the book's meaning before and after as those of `Book` do, so that each can be read beside the
+// trait's: a word for the three of them would hide the equations that a caller looks for.
 
 /// A plan over a book.
 #[derive(Drop)]
@@ -82,12 +85,12 @@ impl<B: Book> OpenPlan<B> {
     /// Computes the plan's times, or finds that it is contradictory. It is never refused.
     pub fn issue(self) -> IssuedPlan<B>
         ensures book { result.book ≡ self.book }
-        ensures right { Right (network_of (B.Book.meaning self.book)) result.times result.ring }
-        ensures past { RightAfter (B.Book.meaning self.book) result.times result.ring }
+        ensures right { Right (network_of (B.Book.meaning self.book)) result.outcome }
+        ensures past { RightAfter (B.Book.meaning self.book) result.outcome }
         ensures step { InStep (B.Book.meaning self.book) (B.Book.meaning result.book) looking }
     {
         let OpenPlan { book } = self;
-        let Verdict { times, ring } = judged(&book);
-        IssuedPlan { book, times, ring }
+        let outcome = solve(&book);
+        IssuedPlan { book, outcome }
     }
 }

@@ -17,11 +17,10 @@ use Rattle.play.specs.Played.{heard_as}
 
 module _ {E : Type 0} (span_of : E → ℕ → Option Span) where
   pub record SheetInto (m : BookMeaning E) (before now : List ℕ) : Type 0 where
-    pub times : Times
-    pub ring : Option Ring
-    pub right : Right (network_of m) times ring
+    pub outcome : Result Times Ring
+    pub right : Right (network_of m) outcome
     pub answer : Result ℕ Refused
-    pub delivered : Delivered span_of m times ring before now answer
+    pub delivered : Delivered span_of m outcome before now answer
 
   abbrev pub Asked : BookMeaning E → PlanCall E → List ℕ → List ℕ → Type 0
   Asked m (Enter p e) before now = now ≡ before

@@ -3,7 +3,7 @@
 --     hears_all m cs       what a book that means m means after the calls cs, in their order
 --     heard_all cs past    the past, and then the calls cs, the newest first
 --     LedTo, RightAfterAll    the promise of a list, whatever past has led to the book
-use Rattle.std.specs.Prelude.{◌≡◌, List, [], ◌∷◌, Option}
+use Rattle.std.specs.Prelude.{◌≡◌, List, [], ◌∷◌, Result}
 use Rattle.book.specs.Past.{heard}
 use Rattle.book.specs.Rules.{Rule, BookMeaning, network_of}
 use Rattle.plan.specs.Issues.{Right}
@@ -42,6 +42,6 @@ module _ {E : Type 0} where
   abbrev pub LedTo : BookMeaning E → BookMeaning E → List (PlanCall E) → Type 0
   LedTo m n cs = (r : Rule E) (past : List (calls.Call E)) → m ≡ heard r past → n ≡ heard r (heard_all cs past)
 
-  -- and the times and the ring are right of the gaps of what that past and then the calls have written down
-  abbrev pub RightAfterAll : BookMeaning E → List (PlanCall E) → Times → Option Ring → Type 0
-  RightAfterAll m cs ts ring = (r : Rule E) (past : List (calls.Call E)) → m ≡ heard r past → Right (network_of (heard r (heard_all cs past))) ts ring
+  -- and the times, or the ring, are right of the gaps of what that past and then the calls have written down
+  abbrev pub RightAfterAll : BookMeaning E → List (PlanCall E) → Result Times Ring → Type 0
+  RightAfterAll m cs outcome = (r : Rule E) (past : List (calls.Call E)) → m ≡ heard r past → Right (network_of (heard r (heard_all cs past))) outcome

@@ -12,4 +12,4 @@ book_in (Issued p) = p.book
 
 abbrev pub Upright : {B E : Type 0} → (B → BookMeaning E) → Stage B E → Type 0
 Upright f (Open p) = Unit {0}
-Upright f (Issued p) = Right (network_of (f p.book)) p.times p.ring
+Upright f (Issued p) = Right (network_of (f p.book)) p.outcome

@@ -20,9 +20,9 @@ pub fn play<B: Book>(book: B, calls: &[PlanCall<B::Entry>], bytes: &mut [u8]) ->
 where
     B::Entry: Spanned,
     ensures after { B.Book.meaning result.book ≡ hears_all (B.Book.meaning book) calls.now }
-    ensures right { Right (network_of (hears_all (B.Book.meaning book) calls.now)) result.times result.ring }
+    ensures right { Right (network_of (hears_all (B.Book.meaning book) calls.now)) result.outcome }
     ensures past { LedTo (B.Book.meaning book) (B.Book.meaning result.book) calls.now }
-    ensures heard { RightAfterAll (B.Book.meaning book) calls.now result.times result.ring }
+    ensures heard { RightAfterAll (B.Book.meaning book) calls.now result.outcome }
     ensures sheets { AllAsked B.Entry.Spanned.span_of (B.Book.meaning book) calls.now bytes.old bytes.new }
 {
     let mut stage = Stage::Open(OpenPlan::over(book));

@@ -15,6 +15,9 @@ use plan::open::OpenPlan;
 use sheet::sheet::sheet;
 use sheet::spanned::Spanned;
 
+// That an issued plan is right stands in the clauses of four calls, and not in a ghost field of `IssuedPlan`: such a field
+// needs a fact with at most one proof, and `Right` tells which event a ring leaves and which times show that a day is possible.
+
 /// A plan, open or issued.
 #[derive(Drop)]
 pub(crate) enum Stage<B: Book> {
@@ -37,7 +40,7 @@ impl<B: Book> Stage<B> {
     pub(crate) fn issued(self) -> IssuedPlan<B>
         requires { Upright B.Book.meaning self }
         ensures book { result.book ≡ book_in self }
-        ensures right { Right (network_of (B.Book.meaning result.book)) result.times result.ring }
+        ensures right { Right (network_of (B.Book.meaning result.book)) result.outcome }
     {
         match self {
             Stage::Open(plan) => plan.issue(),

@@ -1,5 +1,5 @@
 -- The steps of a ring, one after another. Assumes nothing.
-use Rattle.std.proofs.Common.{◌≡◌, ℕ, ◌+◌, ◌-◌, ◌<◌, ◌≤◌, true, false, ◌&&◌, leb, List, [], ◌∷◌, ◌++◌, map, length, get_or, drop, Some, None, Ok, Err, Option, Result, sym, ap, ◌∙◌, ⊎_elim, arith}
+use Rattle.std.proofs.Common.{◌≡◌, ℕ, ◌+◌, ◌-◌, ◌<◌, ◌≤◌, true, false, ◌&&◌, leb, [], ◌∷◌, ◌++◌, map, length, get_or, drop, Ok, Err, Result, sym, ap, ◌∙◌, ⊎_elim, arith}
 use Rattle.std.proofs.lemmas.List.{at_drop_more, at_drop_all}
 use Rattle.std.proofs.lemmas.Bool.{cases_Bool, and_from, and_parts, le-leb, leb-true, cond-true, cond-false, cases_lt}
 use Rattle.network.specs.declared.gap.Step.{Step}
@@ -16,9 +16,9 @@ use Rattle.sheet.specs.Walking.{steps_left}
 use Rattle.sheet.specs.Strides.{StepReady}
 
 -- a ring has at most 1,024 steps
-pub few_steps : (ring : Option Ring) (n : ℕ) → StepReady ring n → n ≤ 1024
-few_steps None n ready = absurd ready
-few_steps (Some r) n ready = let size = last_first_length r.steps r.count in let few = r.few in omega arith
+pub few_steps : (outcome : Result Times Ring) (n : ℕ) → StepReady outcome n → n ≤ 1024
+few_steps (Ok ts) n ready = absurd ready
+few_steps (Err r) n ready = let size = last_first_length r.steps r.count in let few = r.few in omega arith
 
 ok_not_err : {A B : Type 0} (x : A) (y : B) → ◌≡◌ {A = Result A B} (Ok x) (Err y) → ⊥
 ok_not_err x y e = let z : ◌≡◌ {A = ℕ} 0 1 = cc in omega arith
@@ -26,11 +26,11 @@ ok_not_err x y e = let z : ◌≡◌ {A = ℕ} 0 1 = cc in omega arith
 ok_same : (x y : Step) → ◌≡◌ {A = Result Step Refused} (Ok x) (Ok y) → x ≡ y
 ok_same x y e = cc
 
-module _ (ts : Times) (alone both : List ℕ) (m : Meaning) where
-  pub step_there : (ring : Option Ring) (n : ℕ) → StepReady ring n → (s : Step) → step_read ring (n + 1) ≡ Ok s
-      → (steps_left ts ring alone both m ring n ≡ owned m s ∷ steps_left ts ring alone both m ring (n + 1)) × StepReady ring (n + 1)
-  step_there None n ready s read = absurd ready
-  step_there (Some r) n ready s read =
+module _ (m : Meaning) where
+  pub step_there : (outcome : Result Times Ring) (n : ℕ) → StepReady outcome n → (s : Step) → step_read outcome (n + 1) ≡ Ok s
+      → (steps_left m outcome n ≡ owned m s ∷ steps_left m outcome (n + 1)) × StepReady outcome (n + 1)
+  step_there (Ok ts) n ready s read = absurd ready
+  step_there (Err r) n ready s read =
       let steps = ring_steps r in
       let test = leb 1 (n + 1) && leb (n + 1) (length steps) in
       ⊎_elim
@@ -44,9 +44,9 @@ module _ (ts : Times) (alone both : List ℕ) (m : Meaning) where
       (λ (other : test ≡ false). absurd (ok_not_err s _ (sym read ∙ cond-false test _ _ other)))
       (cases_Bool test)
 
-  pub step_past : (ring : Option Ring) (n : ℕ) → StepReady ring n → (k : Refused) → step_read ring (n + 1) ≡ Err k → steps_left ts ring alone both m ring n ≡ form.End n ∷ []
-  step_past None n ready k read = absurd ready
-  step_past (Some r) n ready k read =
+  pub step_past : (outcome : Result Times Ring) (n : ℕ) → StepReady outcome n → (k : Refused) → step_read outcome (n + 1) ≡ Err k → steps_left m outcome n ≡ form.End n ∷ []
+  step_past (Ok ts) n ready k read = absurd ready
+  step_past (Err r) n ready k read =
       let steps = ring_steps r in
       let test = leb 1 (n + 1) && leb (n + 1) (length steps) in
       ⊎_elim

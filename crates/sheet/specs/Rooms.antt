@@ -4,6 +4,7 @@
 --     narrowed_to room z   the room beside a gap of z days of slack
 --     Fits .. k           event e can be raised by k days, as far as the places before n ask
 --     Rooms ..            each event's room is the greatest such number
+--     RoomsBy, RoomsFor   the rooms of an event alone, and of both events of a line, by some of the places or by all
 use Rattle.std.specs.Prelude.{◌≡◌, ℕ, ◌+◌, ◌/◌, ◌<◌, ◌≤◌, min, Bool, true, not, List, ℤ, pos, negsuc, ◌+ℤ◌, ◌≤ℤ◌, Some, ◌==◌, slice_index}
 use Rattle.network.specs.declared.gap.Gap.{Gap}
 use Rattle.network.specs.Meanings.{Meaning}
@@ -33,7 +34,11 @@ module _ (m : Meaning) (t : ℕ → ℕ) (T : ℕ) (w : Moves) (n : ℕ) (e : �
 abbrev pub Rooms : Meaning → (ℕ → ℕ) → ℕ → Moves → ℕ → List ℕ → Type 0
 Rooms m t T w n rooms = (e : ℕ) → e ≤ m.events → Greatest (Fits m t T w n e) (slice_index rooms e)
 
--- the rooms of a schedule of length T, by all places: of an event alone, and of one with the other event of its line
+-- the rooms of a schedule of length T, by the places before n: of an event alone, and of one with the other event of its line
+abbrev pub RoomsBy : Meaning → (ℕ → ℕ) → ℕ → ℕ → List ℕ → List ℕ → Type 0
+RoomsBy m t T n alone both =
+    Schedule m t → length_of m t ≡ T → Rooms m t T Finish n alone × Rooms m t T Both n both
+
+-- the same, by all places
 abbrev pub RoomsFor : Meaning → (ℕ → ℕ) → ℕ → List ℕ → List ℕ → Type 0
-RoomsFor m t T alone both =
-    Schedule m t → length_of m t ≡ T → Rooms m t T Finish (m.places + 1) alone × Rooms m t T Both (m.places + 1) both
+RoomsFor m t T alone both = RoomsBy m t T (m.places + 1) alone both

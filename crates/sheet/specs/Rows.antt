@@ -1,15 +1,13 @@
 -- The rows of a sheet. Assumes nothing.
---     earliest_told ts ring e     the earliest time of e that the plan tells, or 0; latest_told and length_told likewise
+--     earliest_told outcome e    the earliest time of e that the plan tells, or 0; latest_told and length_told likewise
 --     ActivityRow ..             the row is that of the activity of n days on line p
 --     ArrowRow ..                the row is that of the arrow from i to j, of n days, on line p
 --     RowFor ..                  the row is that of the span on line p
 --     RowsFor .. p n rows        the rows are those of the n lines from p on, in rising order, one for each span
-use Rattle.std.specs.Prelude.{◌≡◌, ℕ, zero, suc, ◌+◌, ◌-◌, ◌≤◌, List, [], ◌∷◌, Ok, Err, Option, Result, MatchOption}
+use Rattle.std.specs.Prelude.{◌≡◌, ℕ, zero, suc, ◌+◌, ◌-◌, ◌≤◌, cond, List, [], ◌∷◌, Ok, Err, Option, Result, MatchOption, nat_le}
 use Rattle.network.specs.Meanings.{Meaning}
 use Rattle.network.specs.Schedules.{Schedule, length_of}
-use Rattle.book.specs.declared.refusal.Refused.{Refused}
 use Rattle.activity.specs.Activities.{start_of, finish_of}
-use Rattle.plan.specs.Readings.{time_read, of_sound}
 use Rattle.solver.specs.declared.ring.Ring.{Ring}
 use Rattle.solver.specs.declared.times.Times.{Times}
 use Rattle.solver.specs.Solutions.{earliest_of, latest_of}
@@ -19,41 +17,42 @@ use Rattle.sheet.specs.declared.span.Span.{Span}
 use Rattle.sheet.specs.declared.span.Span.TheVariants.{Activity, Arrow}
 use Rattle.sheet.specs.Floats.{Greatest, Raisable}
 
--- what a reading tells, or 0 where it is refused
-abbrev pub or_nought : Result ℕ Refused → ℕ
-or_nought (Ok n) = n
-or_nought (Err k) = 0
+-- the time that a table has for an event, or 0
+abbrev pub time_told : (Times → ℕ → ℕ) → Result Times Ring → ℕ → ℕ
+time_told t (Ok ts) e = cond (nat_le e ts.events) (t ts e) 0
+time_told t (Err ring) e = 0
 
-abbrev pub earliest_told : Times → Option Ring → ℕ → ℕ
-earliest_told ts ring e = or_nought (time_read ring ts.events (earliest_of ts) e)
+abbrev pub earliest_told : Result Times Ring → ℕ → ℕ
+earliest_told = time_told earliest_of
 
-abbrev pub latest_told : Times → Option Ring → ℕ → ℕ
-latest_told ts ring e = or_nought (time_read ring ts.events (latest_of ts) e)
+abbrev pub latest_told : Result Times Ring → ℕ → ℕ
+latest_told = time_told latest_of
 
-abbrev pub length_told : Times → Option Ring → ℕ
-length_told ts ring = or_nought (of_sound ring ts.length 0)
+abbrev pub length_told : Result Times Ring → ℕ
+length_told (Ok ts) = ts.length
+length_told (Err ring) = 0
 
-module _ (m : Meaning) (ts : Times) (ring : Option Ring) where
+module _ (m : Meaning) (outcome : Result Times Ring) where
   -- the four times are those of the activity's two events
   pub record ActivityRow (p n : ℕ) (w : Moves) (row : Row) : Type 0 where
     pub line : row.line ≡ p
     pub days : row.days ≡ n
-    pub earliest_start : row.start.earliest ≡ earliest_told ts ring (start_of p)
-    pub latest_start : row.start.latest ≡ latest_told ts ring (start_of p)
-    pub earliest_finish : row.finish.earliest ≡ earliest_told ts ring (finish_of p)
-    pub latest_finish : row.finish.latest ≡ latest_told ts ring (finish_of p)
+    pub earliest_start : row.start.earliest ≡ earliest_told outcome (start_of p)
+    pub latest_start : row.start.latest ≡ latest_told outcome (start_of p)
+    pub earliest_finish : row.finish.earliest ≡ earliest_told outcome (finish_of p)
+    pub latest_finish : row.finish.latest ≡ latest_told outcome (finish_of p)
     -- where the earliest times are a schedule, as they are of every plan that was issued
-    pub free : Schedule m (earliest_told ts ring) → length_of m (earliest_told ts ring) ≡ length_told ts ring → 1 ≤ p → finish_of p ≤ m.events
-        → Greatest (Raisable m (earliest_told ts ring) (length_told ts ring) w p) row.free
+    pub free : Schedule m (earliest_told outcome) → length_of m (earliest_told outcome) ≡ length_told outcome → 1 ≤ p → finish_of p ≤ m.events
+        → Greatest (Raisable m (earliest_told outcome) (length_told outcome) w p) row.free
 
   pub record ArrowRow (p i j n : ℕ) (row : Row) : Type 0 where
     pub line : row.line ≡ p
     pub days : row.days ≡ n
-    pub earliest_start : row.start.earliest ≡ earliest_told ts ring i
-    pub earliest_finish : row.finish.earliest ≡ earliest_told ts ring i + n
-    pub latest_finish : row.finish.latest ≡ latest_told ts ring j
-    pub latest_start : row.start.latest ≡ latest_told ts ring j - n
-    pub free : row.free ≡ earliest_told ts ring j - (earliest_told ts ring i + n)
+    pub earliest_start : row.start.earliest ≡ earliest_told outcome i
+    pub earliest_finish : row.finish.earliest ≡ earliest_told outcome i + n
+    pub latest_finish : row.finish.latest ≡ latest_told outcome j
+    pub latest_start : row.start.latest ≡ latest_told outcome j - n
+    pub free : row.free ≡ earliest_told outcome j - (earliest_told outcome i + n)
 
   abbrev pub RowFor : ℕ → Span → Row → Type 0
   RowFor p (Activity days w) = ActivityRow p days w

@@ -4,7 +4,7 @@
 --     SheetOf .. fs         the forms fs are the sheet
 --     rendered fs           their bytes
 --     Delivered ..          the sheet is in the caller's bytes, or it is refused and they are as they were
-use Rattle.std.specs.Prelude.{◌≡◌, ℕ, cond, List, [], ◌∷◌, ◌++◌, map, length, drop, Some, None, Ok, Err, Option, Result, nat_le}
+use Rattle.std.specs.Prelude.{◌≡◌, ℕ, cond, List, [], ◌∷◌, ◌++◌, map, length, drop, Ok, Err, Option, Result, nat_le}
 use Rattle.network.specs.declared.gap.Step.{Step}
 use Rattle.network.specs.Meanings.{Meaning}
 use Rattle.book.specs.declared.refusal.Refused.{Refused}
@@ -28,25 +28,25 @@ abbrev pub owned : Meaning → Step → SheetForm
 owned m s = form.Step (record { owner = m.owner s.place; gap = s.gap })
 
 -- a length, a row for each span, and the count of the rows
-pub record SoundSheet (m : Meaning) (ts : Times) (ring : Option Ring) (spans : ℕ → Option Span) (lines : ℕ) (fs : List SheetForm) : Type 0 where
+pub record SoundSheet (m : Meaning) (ts : Times) (spans : ℕ → Option Span) (lines : ℕ) (fs : List SheetForm) : Type 0 where
   pub rows : List Row
-  pub each : RowsFor m ts ring spans 1 lines rows
+  pub each : RowsFor m (Ok ts) spans 1 lines rows
   pub all : fs ≡ form.Length ts.length ∷ (map form.Line rows ++ (form.End (length rows) ∷ []))
 
 abbrev pub ring_sheet : Meaning → List Step → List SheetForm
 ring_sheet m steps = form.Contradiction (length steps) ∷ (map (owned m) steps ++ (form.End (length steps) ∷ []))
 
-abbrev pub SheetOf : {E : Type 0} → (E → ℕ → Option Span) → BookMeaning E → Times → Option Ring → List SheetForm → Type 0
-SheetOf span_of m ts None fs = SoundSheet (network_of m) ts None (spans_of span_of m) m.rule.lines fs
-SheetOf span_of m ts (Some ring) fs = fs ≡ ring_sheet (network_of m) (ring_steps ring)
+abbrev pub SheetOf : {E : Type 0} → (E → ℕ → Option Span) → BookMeaning E → Result Times Ring → List SheetForm → Type 0
+SheetOf span_of m (Ok ts) fs = SoundSheet (network_of m) ts (spans_of span_of m) m.rule.lines fs
+SheetOf span_of m (Err ring) fs = fs ≡ ring_sheet (network_of m) (ring_steps ring)
 
 abbrev pub rendered : List SheetForm → List ℕ
 rendered [] = []
 rendered (f ∷ fs) = shown f ++ rendered fs
 
 -- refused exactly where the slice is shorter than the sheet; past the sheet it is as it was
-pub record Delivered {E : Type 0} (span_of : E → ℕ → Option Span) (m : BookMeaning E) (ts : Times) (ring : Option Ring) (before now : List ℕ) (answer : Result ℕ Refused) : Type 0 where
+pub record Delivered {E : Type 0} (span_of : E → ℕ → Option Span) (m : BookMeaning E) (outcome : Result Times Ring) (before now : List ℕ) (answer : Result ℕ Refused) : Type 0 where
   pub forms : List SheetForm
-  pub sheet : SheetOf span_of m ts ring forms
+  pub sheet : SheetOf span_of m outcome forms
   pub told : answer ≡ cond (nat_le (length (rendered forms)) (length before)) (Ok (length (rendered forms))) (Err (refused_at BufferTooShort 0))
   pub bytes : now ≡ cond (nat_le (length (rendered forms)) (length before)) (rendered forms ++ drop (length (rendered forms)) before) before

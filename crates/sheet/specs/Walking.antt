@@ -3,7 +3,7 @@
 --     row_of ..           the row of a span on a line
 --     rows_from ..        the rows of the n lines from p on
 --     left ..            the forms that are left at a place of the walk
-use Rattle.std.specs.Prelude.{ℕ, zero, suc, ◌+◌, ◌-◌, ◌≤◌, min, List, [], ◌∷◌, ◌++◌, map, length, drop, Some, None, Option, slice_index}
+use Rattle.std.specs.Prelude.{ℕ, zero, suc, ◌+◌, ◌-◌, ◌≤◌, min, List, [], ◌∷◌, ◌++◌, map, length, drop, Some, None, Ok, Err, Option, Result, slice_index}
 use Rattle.network.specs.Meanings.{Meaning}
 use Rattle.activity.specs.Activities.{start_of, finish_of}
 use Rattle.solver.specs.declared.ring.Ring.{Ring}
@@ -26,17 +26,22 @@ abbrev pub free_by : List ℕ → List ℕ → Moves → ℕ → ℕ
 free_by alone both Finish p = slice_index alone (finish_of p)
 free_by alone both Both p = min (slice_index both (start_of p)) (slice_index both (finish_of p))
 
-module _ (ts : Times) (ring : Option Ring) where
+-- the steps of a ring after the first n, and their count
+abbrev pub steps_left : Meaning → Result Times Ring → ℕ → List SheetForm
+steps_left m (Ok ts) n = form.End 0 ∷ []
+steps_left m (Err r) n = map (owned m) (drop n (ring_steps r)) ++ (form.End (length (ring_steps r)) ∷ [])
+
+module _ (outcome : Result Times Ring) where
   abbrev pub window_of : ℕ → Window
-  window_of e = record { earliest = earliest_told ts ring e; latest = latest_told ts ring e }
+  window_of e = record { earliest = earliest_told outcome e; latest = latest_told outcome e }
 
   abbrev pub arrow_row : ℕ → ℕ → ℕ → ℕ → Row
   arrow_row p i j days = record {
     line = p;
     days = days;
-    start = record { earliest = earliest_told ts ring i; latest = latest_told ts ring j - days };
-    finish = record { earliest = earliest_told ts ring i + days; latest = latest_told ts ring j };
-    free = earliest_told ts ring j - (earliest_told ts ring i + days);
+    start = record { earliest = earliest_told outcome i; latest = latest_told outcome j - days };
+    finish = record { earliest = earliest_told outcome i + days; latest = latest_told outcome j };
+    free = earliest_told outcome j - (earliest_told outcome i + days);
   }
 
   module _ (alone both : List ℕ) where
@@ -64,18 +69,14 @@ module _ (ts : Times) (ring : Option Ring) where
     abbrev pub closed : ℕ → List Row → List SheetForm
     closed made rows = map form.Line rows ++ (form.End (made + length rows) ∷ [])
 
-    abbrev pub whole : Meaning → (ℕ → Option Span) → ℕ → Option Ring → List SheetForm
-    whole m spans lines None = form.Length ts.length ∷ closed 0 (rows_from spans 1 lines)
-    whole m spans lines (Some r) = ring_sheet m (ring_steps r)
-
-    abbrev pub steps_left : Meaning → Option Ring → ℕ → List SheetForm
-    steps_left m None n = form.End 0 ∷ []
-    steps_left m (Some r) n = map (owned m) (drop n (ring_steps r)) ++ (form.End (length (ring_steps r)) ∷ [])
+    abbrev pub whole : Meaning → (ℕ → Option Span) → ℕ → Result Times Ring → List SheetForm
+    whole m spans lines (Ok ts) = form.Length ts.length ∷ closed 0 (rows_from spans 1 lines)
+    whole m spans lines (Err r) = ring_sheet m (ring_steps r)
 
     abbrev pub left : Meaning → (ℕ → Option Span) → ℕ → Walk → List SheetForm
-    left m spans lines at.Head = whole m spans lines ring
+    left m spans lines at.Head = whole m spans lines outcome
     left m spans lines (at.Line p made) = closed made (rows_from spans p (lines + 1 - p))
-    left m spans lines (at.Step n) = steps_left m ring n
+    left m spans lines (at.Step n) = steps_left m outcome n
     left m spans lines at.Done = []
 
 abbrev pub RowInside : ℕ → ℕ → Option Row → Type 0

@@ -11,4 +11,5 @@ pub mod span;
 pub mod spanned;
 pub mod spans;
 mod stride;
+mod told;
 mod walk;

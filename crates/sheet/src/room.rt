@@ -5,7 +5,7 @@ ghost use Rattle.std.specs.Prelude.{◌≡◌, length};
 mod narrow;
 mod pass;
 
-pub(crate) use crate::room::pass::{earliest_told, rooms_of};
+pub(crate) use crate::room::pass::rooms_of;
 
 /// The days by which each event can still be raised.
 #[derive(Drop)]

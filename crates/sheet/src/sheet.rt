@@ -4,51 +4,51 @@ ghost use Rattle.std.specs.Prelude.{◌≡◌, ◌≤◌, ◌++◌, length, drop
 ghost use Rattle.sheet.specs.Sheets.{Delivered};
 ghost use Rattle.sheet.specs.Strides.{sheet_bytes};
 
-use crate::room::{AllRooms, rooms_of};
+use crate::room::rooms_of;
+use crate::row::Rows;
 use crate::spanned::Spanned;
 use crate::walk::Walk;
 use book::refusal::{Layer, Refusal, Refused};
 use book::traits::Book;
 use plan::issued::IssuedPlan;
 
-/// Whether the sheet has at most so many bytes.
-fn fits<B: Book>(plan: &IssuedPlan<B>, rooms: &AllRooms, bytes: usize) -> bool
+impl<B: Book> Rows<'_, B>
 where
     B::Entry: Spanned,
-    ensures { result ≡ nat_le (length (sheet_bytes B.Entry.Spanned.span_of B.Book.meaning plan.now rooms.now)) bytes }
 {
-    let mut free = bytes;
-    let mut walk = Walk::Head;
-    while let Some(stride) = walk.next(plan, rooms) {
-        let size = stride.form.size();
-        if size > free {
-            return false;
+    /// Whether the sheet has at most so many bytes.
+    fn fits(&self, bytes: usize) -> bool
+        ensures { result ≡ nat_le (length (sheet_bytes B.Entry.Spanned.span_of B.Book.meaning self.now)) bytes }
+    {
+        let mut free = bytes;
+        let mut walk = Walk::Head;
+        while let Some(form) = walk.next(self) {
+            let size = form.size();
+            if size > free {
+                return false;
+            }
+            free -= size;
         }
-        free -= size;
-        walk = stride.rest;
+        true
     }
-    true
-}
 
-/// Writes the sheet where it fits, and says how many bytes it has.
-fn written<B: Book>(plan: &IssuedPlan<B>, rooms: &AllRooms, out: &mut [u8]) -> usize
-where
-    B::Entry: Spanned,
-    requires { length (sheet_bytes B.Entry.Spanned.span_of B.Book.meaning plan.now rooms.now) ≤ length out.old }
-    ensures count { result ≡ length (sheet_bytes B.Entry.Spanned.span_of B.Book.meaning plan.now rooms.now) }
-    ensures bytes { out.new ≡ sheet_bytes B.Entry.Spanned.span_of B.Book.meaning plan.now rooms.now ++ drop result out.old }
-{
-    let mut at = 0;
-    let mut walk = Walk::Head;
-    while let Some(stride) = walk.next(plan, rooms) {
-        let text = stride.form.text();
-        let bytes = text.bytes();
-        let end = at + bytes.len();
-        out[at..end].copy_from_slice(bytes);
-        at = end;
-        walk = stride.rest;
+    /// Writes the sheet where it fits, and says how many bytes it has.
+    fn written(&self, out: &mut [u8]) -> usize
+        requires { length (sheet_bytes B.Entry.Spanned.span_of B.Book.meaning self.now) ≤ length out.old }
+        ensures count { result ≡ length (sheet_bytes B.Entry.Spanned.span_of B.Book.meaning self.now) }
+        ensures bytes { out.new ≡ sheet_bytes B.Entry.Spanned.span_of B.Book.meaning self.now ++ drop result out.old }
+    {
+        let mut at = 0;
+        let mut walk = Walk::Head;
+        while let Some(form) = walk.next(self) {
+            let text = form.text();
+            let bytes = text.bytes();
+            let end = at + bytes.len();
+            out[at..end].copy_from_slice(bytes);
+            at = end;
+        }
+        at
     }
-    at
 }
 
 /// Writes the sheet of an issued plan into the caller's bytes, and says how many it wrote. It is refused exactly where
@@ -57,11 +57,12 @@ where
 pub fn sheet<B: Book>(plan: &IssuedPlan<B>, out: &mut [u8]) -> Result<usize, Refused>
 where
     B::Entry: Spanned,
-    ensures { Delivered B.Entry.Spanned.span_of (B.Book.meaning plan.now.book) plan.now.times plan.now.ring out.old out.new result }
+    ensures { Delivered B.Entry.Spanned.span_of (B.Book.meaning plan.now.book) plan.now.outcome out.old out.new result }
 {
     let rooms = rooms_of(plan);
-    if fits(plan, &rooms, out.len()) {
-        Ok(written(plan, &rooms, out))
+    let rows = Rows { plan, rooms };
+    if rows.fits(out.len()) {
+        Ok(rows.written(out))
     } else {
         Err(Refused {
             why: Refusal::BufferTooShort,

@@ -1,95 +1,78 @@
 //! One form more of a walk.
 
-ghost use Rattle.std.specs.Prelude.{◌≡◌, ℕ, List, Some, None, Option};
-ghost use Rattle.book.specs.Rules.{network_of};
-ghost use Rattle.sheet.specs.declared.span.Span.{Span};
+ghost use Rattle.std.specs.Prelude.{◌≡◌, Some};
 ghost use Rattle.sheet.specs.declared.walk.Walk.TheVariants as at;
-ghost use Rattle.sheet.specs.Walking.{left};
-ghost use Rattle.sheet.specs.Strides.{StepReady, Strode, ReadyAt, StrodeFrom, head_of, after_head};
+ghost use Rattle.sheet.specs.Strides.{StepReady, ReadyAt, StrodeFrom, head_of, after_head};
 
-use crate::room::AllRooms;
+use crate::row::Rows;
 use crate::spanned::Spanned;
-use crate::walk::{Walk, next_row};
+use crate::walk::Walk;
 use book::traits::Book;
-use plan::issued::IssuedPlan;
 use sheet_forms::form::{OwnedStep, SheetForm};
 
-/// A form, and where the walk goes on after it.
-#[derive(Clone, Copy)]
-pub(crate) struct Stride {
-    pub form: SheetForm,
-    pub rest: Walk,
-}
-
-/// The head of a sheet.
-fn head<B: Book>(plan: &IssuedPlan<B>) -> Stride
-    ensures form { result.form ≡ head_of plan.now.times plan.now.ring }
-    ensures rest { result.rest ≡ after_head plan.now.ring }
-{
-    match plan.length() {
-        Ok(length) => Stride {
-            form: SheetForm::Length(length),
-            rest: Walk::Line(1, 0),
-        },
-        Err(_) => Stride {
-            form: SheetForm::Contradiction(plan.ring_steps()),
-            rest: Walk::Step(0),
-        },
-    }
-}
-
-/// The step of a ring after so many, with its owner; the end where there is none.
-fn after_steps<B: Book>(plan: &IssuedPlan<B>, steps: usize) -> Stride
-    requires { StepReady plan.now.ring steps }
-    ensures { (alone both : List ℕ) (spans : ℕ → Option Span) (lines : ℕ) → Strode plan.now.ring lines (left plan.now.times plan.now.ring alone both (network_of (B.Book.meaning plan.now.book)) spans lines) (at.Step steps) (Some result) }
-{
-    match plan.ring_step(steps + 1) {
-        Ok(step) => Stride {
-            form: SheetForm::Step(OwnedStep {
-                owner: plan.book().owner(step.place),
-                gap: step.gap,
-            }),
-            rest: Walk::Step(steps + 1),
-        },
-        Err(_) => Stride {
-            form: SheetForm::End(steps),
-            rest: Walk::Done,
-        },
-    }
-}
-
-/// The next row from a line on; the end where there is none.
-fn after_rows<B: Book>(plan: &IssuedPlan<B>, rooms: &AllRooms, line: usize, made: usize) -> Stride
+impl<B: Book> Rows<'_, B>
 where
     B::Entry: Spanned,
-    requires { ReadyAt B.Entry.Spanned.span_of B.Book.meaning plan.now rooms.now (at.Line line made) }
-    ensures { StrodeFrom B.Entry.Spanned.span_of B.Book.meaning plan.now rooms.now (at.Line line made) (Some result) }
 {
-    match next_row(plan, rooms, line) {
-        Some(row) => Stride {
-            form: SheetForm::Line(row),
-            rest: Walk::Line(row.line + 1, made + 1),
-        },
-        None => Stride {
-            form: SheetForm::End(made),
-            rest: Walk::Done,
-        },
+    /// The head of a sheet, and where the walk goes on after it.
+    fn head(&self) -> (SheetForm, Walk)
+        ensures form { result.0 ≡ head_of self.now.plan.now.outcome }
+        ensures rest { result.1 ≡ after_head self.now.plan.now.outcome }
+    {
+        match self.plan.length() {
+            Ok(length) => (SheetForm::Length(length), Walk::Line(1, 0)),
+            Err(_) => (
+                SheetForm::Contradiction(self.plan.ring_steps()),
+                Walk::Step(0),
+            ),
+        }
+    }
+
+    /// The step of a ring after so many, with its owner; the end where there is none.
+    fn after_steps(&self, steps: usize) -> (SheetForm, Walk)
+        requires { StepReady self.now.plan.now.outcome steps }
+        ensures { StrodeFrom B.Entry.Spanned.span_of B.Book.meaning self.now (at.Step steps) (Some result.0) result.1 }
+    {
+        match self.plan.ring_step(steps + 1) {
+            Ok(step) => {
+                let owner = self.plan.book().owner(step.place);
+                let gap = step.gap;
+                (
+                    SheetForm::Step(OwnedStep { owner, gap }),
+                    Walk::Step(steps + 1),
+                )
+            }
+            Err(_) => (SheetForm::End(steps), Walk::Done),
+        }
+    }
+
+    /// The next row from a line on; the end where there is none.
+    fn after_rows(&self, line: usize, made: usize) -> (SheetForm, Walk)
+        requires { ReadyAt B.Entry.Spanned.span_of B.Book.meaning self.now (at.Line line made) }
+        ensures { StrodeFrom B.Entry.Spanned.span_of B.Book.meaning self.now (at.Line line made) (Some result.0) result.1 }
+    {
+        match self.next_row(line) {
+            Some(row) => (SheetForm::Line(row), Walk::Line(row.line + 1, made + 1)),
+            None => (SheetForm::End(made), Walk::Done),
+        }
     }
 }
 
 impl Walk {
-    /// The next form of the walk.
-    pub(crate) fn next<B: Book>(self, plan: &IssuedPlan<B>, rooms: &AllRooms) -> Option<Stride>
+    /// The next form of the walk; nothing at its end.
+    pub(crate) fn next<B: Book>(&mut self, rows: &Rows<B>) -> Option<SheetForm>
     where
         B::Entry: Spanned,
-        requires { ReadyAt B.Entry.Spanned.span_of B.Book.meaning plan.now rooms.now self }
-        ensures { StrodeFrom B.Entry.Spanned.span_of B.Book.meaning plan.now rooms.now self result }
+        requires { ReadyAt B.Entry.Spanned.span_of B.Book.meaning rows.now self.old }
+        ensures { StrodeFrom B.Entry.Spanned.span_of B.Book.meaning rows.now self.old result self.new }
     {
-        match self {
-            Walk::Head => Some(head(plan)),
-            Walk::Line(line, made) => Some(after_rows(plan, rooms, line, made)),
-            Walk::Step(steps) => Some(after_steps(plan, steps)),
-            Walk::Done => None,
-        }
+        let (form, rest) = match *self {
+            Walk::Head => rows.head(),
+            Walk::Line(line, made) => rows.after_rows(line, made),
+            Walk::Step(steps) => rows.after_steps(steps),
+            Walk::Done => return None,
+        };
+        *self = rest;
+        Some(form)
     }
 }

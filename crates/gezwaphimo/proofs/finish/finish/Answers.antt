@@ -16,11 +16,10 @@ returns-in-None g c =
     record {
       bytes = rendered done.forms;
       heard = c.in-None.ensures (rendered done.forms) (record {
-        times = plan.times;
-        ring = plan.ring;
-        right = subst (λ x. Right (network_of x) plan.times plan.ring) over c.issue-plan.ensures.right;
+        outcome = plan.outcome;
+        right = subst (λ x. Right (network_of x) plan.outcome) over c.issue-plan.ensures.right;
         forms = done.forms;
-        sheet = subst (λ x. SheetOf g.B.Entry.Spanned.span_of x plan.times plan.ring done.forms) same done.sheet;
+        sheet = subst (λ x. SheetOf g.B.Entry.Spanned.span_of x plan.outcome done.forms) same done.sheet;
         is = refl;
       });
       poured = record { told = done.told; held = done.bytes };

@@ -43,8 +43,8 @@ returns g c =
     λ r cs led. whole ∙ ap (λ m. hears_all m calls) led ∙ hears-heard r cs calls in
     record {
       after = whole;
-      right = subst (λ m. Right (network_of m) c.issued.result.times c.issued.result.ring) whole c.issued.ensures.right;
+      right = subst (λ m. Right (network_of m) c.issued.result.outcome) whole c.issued.ensures.right;
       past = past;
-      heard = λ r cs led. subst (λ m. Right (network_of m) c.issued.result.times c.issued.result.ring) (past r cs led) c.issued.ensures.right;
+      heard = λ r cs led. subst (λ m. Right (network_of m) c.issued.result.outcome) (past r cs led) c.issued.ensures.right;
       sheets = subst (λ b. AllAsked g.B.Entry.Spanned.span_of (meaning b) calls c.args.bytes.now c.loop-call.bytes) c.over.ensures (c.loop-call.invariant.1.1 c.loop-call.bytes (subst (λ (cs : List (PlanCall _)). AllAsked g.B.Entry.Spanned.span_of (meaning (book_in c.loop-call.stage)) cs c.loop-call.bytes c.loop-call.bytes) (sym (drop_all c.loop-call.call-index calls (omega arith))) refl));
     }

@@ -13,10 +13,9 @@ returns g c =
       same = same;
       upright = c.issued-plan.ensures.right;
       asked = record {
-        times = plan.times;
-        ring = plan.ring;
-        right = subst (λ x. Right (network_of x) plan.times plan.ring) m c.issued-plan.ensures.right;
+        outcome = plan.outcome;
+        right = subst (λ x. Right (network_of x) plan.outcome) m c.issued-plan.ensures.right;
         answer = c.sheet.result;
-        delivered = subst (λ x. Delivered g.B.Entry.Spanned.span_of x plan.times plan.ring c.args.bytes.now c.sheet.new.out c.sheet.result) m c.sheet.ensures;
+        delivered = subst (λ x. Delivered g.B.Entry.Spanned.span_of x plan.outcome c.args.bytes.now c.sheet.new.out c.sheet.result) m c.sheet.ensures;
       };
     }
