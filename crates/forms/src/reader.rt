@@ -6,16 +6,9 @@ ghost use Rattle.forms.specs.Texts.{left, Ends, Reads, Stays, Shrinks, Apart};
 use crate::form::Form;
 use crate::line::form;
 
-/// What the reader finds next.
+/// What stands next in a text is no form.
 #[derive(Clone, Copy, PartialEq, Eq, Debug)]
-pub enum Next {
-    /// The text is at its end.
-    End,
-    /// A form stood there, and was read.
-    Form(Form),
-    /// What stands there is no form, and nothing was read.
-    NoForm,
-}
+pub struct NoForm;
 
 /// Reads a text form by form.
 #[derive(Drop)]
@@ -33,8 +26,8 @@ impl<'a> Reader<'a> {
         Reader { text, at: 0 }
     }
 
-    /// Reads one form, and stops after it.
-    pub fn next(&mut self) -> Next
+    /// Reads one form, and stops after it: nothing at the end of the text. An error reads nothing.
+    pub fn next(&mut self) -> Result<Option<Form>, NoForm>
         ensures ends { Ends (left self.old) result }
         ensures reads { Reads (left self.old) (left self.new) result }
         ensures stays { Stays self.old.at self.new.at result }
@@ -43,14 +36,14 @@ impl<'a> Reader<'a> {
         ensures apart { Apart }
     {
         if self.at >= self.text.len() {
-            return Next::End;
+            return Ok(None);
         }
         match form(self.text, self.at) {
             Some((form, at)) => {
                 self.at = at;
-                Next::Form(form)
+                Ok(Some(form))
             }
-            None => Next::NoForm,
+            None => Err(NoForm),
         }
     }
 }

@@ -35,8 +35,8 @@ returns-in-None c =
     let t = c.args.self.now.text.now in
     let at = c.args.self.now.at in
     record {
-      ends = none_ends t at (omega arith);
-      reads = none_reads t at _ (sym c.in-None.ensures);
+      ends = none_ends t at _ (omega arith);
+      reads = none_reads t at _ _ (sym c.in-None.ensures);
       stays = refl;
       shrinks = tt;
       text = refl;
