@@ -1,10 +1,10 @@
 //! The number that a word writes: plain decimal, with no leading zero, of one to six digits.
 
 ghost use Rattle.std.specs.Prelude.{◌≡◌};
-ghost use Rattle.forms.specs.Reading.{number_at, lag_at};
-ghost use Rattle.forms.specs.States.{stepped, made, number_in, lag_in};
+ghost use Rattle.forms.specs.Reading.{number_of, lag_of};
+ghost use Rattle.forms.specs.States.{stepped, made};
 
-use crate::word::word_before;
+use crate::spelled::Spelled;
 
 /// What the bytes of a word make so far.
 #[derive(Clone, Copy)]
@@ -53,43 +53,29 @@ fn state_after(bytes: &[u8]) -> State
     reader.state
 }
 
-/// The number that a word writes, if it writes one with no sign.
-fn number_of(bytes: &[u8]) -> Option<u32>
-    ensures { result ≡ number_in (made bytes.now) }
-{
-    match state_after(bytes) {
-        State::Zero => Some(0),
-        State::Above(n) => Some(n),
-        State::Start | State::Minus | State::Below(_) | State::Bad => None,
+impl Spelled for u32 {
+    ghost of_word = { number_of };
+
+    /// The number that a word writes, if it writes one with no sign.
+    fn of_word(word: &[u8]) -> Option<u32> {
+        match state_after(word) {
+            State::Zero => Some(0),
+            State::Above(n) => Some(n),
+            State::Start | State::Minus | State::Below(_) | State::Bad => None,
+        }
     }
 }
 
-/// The lag that a word writes, if it writes one: a number, with a minus where it is below 0.
-fn lag_of(bytes: &[u8]) -> Option<i32>
-    ensures { result ≡ lag_in (made bytes.now) }
-{
-    match state_after(bytes) {
-        State::Zero => Some(0),
-        State::Above(n) => Some(n as i32),
-        State::Below(n) => Some(-(n as i32)),
-        State::Start | State::Minus | State::Bad => None,
+impl Spelled for i32 {
+    ghost of_word = { lag_of };
+
+    /// The lag that a word writes, if it writes one: a number, with a minus where it is below 0.
+    fn of_word(word: &[u8]) -> Option<i32> {
+        match state_after(word) {
+            State::Zero => Some(0),
+            State::Above(n) => Some(n as i32),
+            State::Below(n) => Some(-(n as i32)),
+            State::Start | State::Minus | State::Bad => None,
+        }
     }
-}
-
-/// A number, before the byte `b`.
-pub(crate) fn number(text: &[u8], at: usize, b: u8) -> Option<(u32, usize)>
-    ensures { result ≡ number_at text.now at b }
-{
-    let (word, next) = word_before(text, at, b)?;
-    let n = number_of(word.bytes)?;
-    Some((n, next))
-}
-
-/// A lag, before the byte `b`.
-pub(crate) fn lag(text: &[u8], at: usize, b: u8) -> Option<(i32, usize)>
-    ensures { result ≡ lag_at text.now at b }
-{
-    let (word, next) = word_before(text, at, b)?;
-    let n = lag_of(word.bytes)?;
-    Some((n, next))
 }

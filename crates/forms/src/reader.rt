@@ -1,10 +1,15 @@
 //! The reader of a text.
 
-ghost use Rattle.std.specs.Prelude.{◌≡◌};
+ghost use Rattle.std.specs.Prelude.{◌≡◌, IfSome};
+ghost use Rattle.std.specs.Option.{option_map};
+ghost use Rattle.forms.specs.Reading.{word_as};
+ghost use Rattle.forms.specs.Steps.{Passes, Takes};
 ghost use Rattle.forms.specs.Texts.{left, Ends, Reads, Stays, Shrinks, Apart};
+ghost use Rattle.forms.specs.Words.{word_before};
 
 use crate::form::Form;
-use crate::line::form;
+use crate::spelled::Spelled;
+use crate::word::{Word, word_end};
 
 /// What stands next in a text is no form.
 #[derive(Clone, Copy, PartialEq, Eq, Debug)]
@@ -38,12 +43,46 @@ impl<'a> Reader<'a> {
         if self.at >= self.text.len() {
             return Ok(None);
         }
-        match form(self.text, self.at) {
-            Some((form, at)) => {
-                self.at = at;
-                Ok(Some(form))
-            }
-            None => Err(NoForm),
+        let mut ahead = Reader {
+            text: self.text,
+            at: self.at,
+        };
+        let form = ahead.form().ok_or(NoForm)?;
+        self.at = ahead.at;
+        Ok(Some(form))
+    }
+
+    /// Goes past the byte `b`, if it stands here.
+    pub(crate) fn byte(&mut self, b: u8) -> Option<()>
+        ensures { Passes b self.old self.new result }
+    {
+        if self.at < self.text.len() && self.text[self.at] == b {
+            self.at += 1;
+            Some(())
+        } else {
+            None
         }
+    }
+
+    /// The longest word from here on, if the byte `b` follows it. Goes past both.
+    fn word_before(&mut self, b: u8) -> Option<Word<'a>>
+        ensures text { self.new.text ≡ self.old.text }
+        ensures word { option_map (λ w. (w.bytes.now, self.new.at)) result ≡ word_before self.old.text.now self.old.at b }
+        ensures place { IfSome result (λ w. w.place ≡ self.old.at) }
+    {
+        let place = self.at;
+        let end = word_end(self.text, place);
+        self.at = end;
+        self.byte(b)?;
+        let bytes = &self.text[place..end];
+        Some(Word { place, bytes })
+    }
+
+    /// What the word before the byte `b` spells.
+    pub(crate) fn word<T: Spelled>(&mut self, b: u8) -> Option<T>
+        ensures { Takes (λ t at. word_as T.of_word t at b) self.old self.new result }
+    {
+        let word = self.word_before(b)?;
+        T::of_word(word.bytes)
     }
 }
