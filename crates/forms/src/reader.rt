@@ -9,7 +9,7 @@ ghost use Rattle.forms.specs.Words.{word_before};
 
 use crate::form::Form;
 use crate::spelled::Spelled;
-use crate::word::{Word, word_end};
+use crate::word::{Word, word_length};
 
 /// What stands next in a text is no form.
 #[derive(Clone, Copy, PartialEq, Eq, Debug)]
@@ -71,10 +71,11 @@ impl<'a> Reader<'a> {
         ensures place { IfSome result (λ w. w.place ≡ self.old.at) }
     {
         let place = self.at;
-        let end = word_end(self.text, place);
-        self.at = end;
+        let rest = self.text.get(place..)?;
+        let length = word_length(rest);
+        self.at += length;
         self.byte(b)?;
-        let bytes = &self.text[place..end];
+        let bytes = &rest[..length];
         Some(Word { place, bytes })
     }
 

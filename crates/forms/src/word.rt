@@ -1,7 +1,8 @@
 //! Words in a text.
 
 ghost use Rattle.std.specs.Prelude.{◌≡◌};
-ghost use Rattle.forms.specs.Words.{in_word, word_end};
+ghost use Rattle.std.specs.List.{prefix_len};
+ghost use Rattle.forms.specs.Words.{in_word};
 
 use crate::mark::{Mark, told_apart};
 
@@ -22,13 +23,9 @@ fn is_in_word(b: u8) -> bool
     }
 }
 
-/// Where the longest word from `at` on ends.
-pub(crate) fn word_end(text: &[u8], at: usize) -> usize
-    ensures { result ≡ word_end text.now at }
+/// How long the word is that a text begins with.
+pub(crate) fn word_length(text: &[u8]) -> usize
+    ensures { result ≡ prefix_len in_word text.now }
 {
-    let mut end = at;
-    while end < text.len() && is_in_word(text[end]) {
-        end += 1;
-    }
-    end
+    text.iter().take_while(|b| is_in_word(**b)).count()
 }
