@@ -27,8 +27,8 @@ impl Reader<'_> {
         ensures { Takes point_at self.old self.new result }
     {
         let kind = self.word(b' ')?;
-        let n: u32 = self.word(b' ')?;
-        Some(point_of(kind, n as usize))
+        let n = self.word(b' ')?;
+        Some(point_of(kind, n))
     }
 
     /// A date between brackets: its event, its bound and its day.

@@ -15,9 +15,7 @@ impl Reader<'_> {
     fn amount(&mut self) -> Option<(u32, Running)>
         ensures { Takes amount_at self.old self.new result }
     {
-        let amount = self.word(b' ')?;
-        let running = self.word(b')')?;
-        Some((amount, running))
+        Some((self.word(b' ')?, self.word(b')')?))
     }
 
     /// A relation after its first word, up to the closing bracket.
@@ -25,17 +23,12 @@ impl Reader<'_> {
     fn relation(&mut self) -> Option<Relation>
         ensures { Takes relation_at self.old self.new result }
     {
-        let kind = self.word(b' ')?;
-        let bound = self.word(b' ')?;
-        let first: u32 = self.word(b' ')?;
-        let second: u32 = self.word(b' ')?;
-        let lag = self.word(b')')?;
         Some(Relation {
-            kind,
-            bound,
-            first: first as usize,
-            second: second as usize,
-            lag,
+            kind: self.word(b' ')?,
+            bound: self.word(b' ')?,
+            first: self.word(b' ')?,
+            second: self.word(b' ')?,
+            lag: self.word(b')')?,
         })
     }
 
@@ -44,13 +37,10 @@ impl Reader<'_> {
     fn arrow(&mut self) -> Option<Arrow>
         ensures { Takes arrow_at self.old self.new result }
     {
-        let from: u32 = self.word(b' ')?;
-        let to: u32 = self.word(b' ')?;
-        let days = self.word(b')')?;
         Some(Arrow {
-            from: from as usize,
-            to: to as usize,
-            days,
+            from: self.word(b' ')?,
+            to: self.word(b' ')?,
+            days: self.word(b')')?,
         })
     }
 

@@ -14,10 +14,10 @@ impl Reader<'_> {
     fn entry(&mut self) -> Option<(usize, Item)>
         ensures { Takes entry_at self.old self.new result }
     {
-        let line: u32 = self.word(b' ')?;
+        let line = self.word(b' ')?;
         let item = self.item()?;
         self.byte(b')')?;
-        Some((line as usize, item))
+        Some((line, item))
     }
 
     /// A line's number and the date that is to stand there, up to the closing bracket.
@@ -25,10 +25,10 @@ impl Reader<'_> {
     fn day(&mut self) -> Option<(usize, (Point, Bound, u32))>
         ensures { Takes day_at self.old self.new result }
     {
-        let line: u32 = self.word(b' ')?;
+        let line = self.word(b' ')?;
         let date = self.date()?;
         self.byte(b')')?;
-        Some((line as usize, date))
+        Some((line, date))
     }
 
     /// A form after its first word, which says what it does, up to the closing bracket.
@@ -46,18 +46,12 @@ impl Reader<'_> {
                 let (line, item) = self.entry()?;
                 Some(Form::Alter(line, item))
             }
-            Command::Strike => {
-                let line: u32 = self.word(b')')?;
-                Some(Form::Strike(line as usize))
-            }
+            Command::Strike => Some(Form::Strike(self.word(b')')?)),
             Command::Date => {
                 let (line, (point, bound, day)) = self.day()?;
                 Some(Form::Date(line, point, bound, day))
             }
-            Command::Clear => {
-                let line: u32 = self.word(b')')?;
-                Some(Form::Clear(line as usize))
-            }
+            Command::Clear => Some(Form::Clear(self.word(b')')?)),
         }
     }
 

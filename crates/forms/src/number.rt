@@ -31,10 +31,14 @@ impl NumberReader {
         self.state = match (self.state, char::from(b)) {
             (State::Start, '-') => State::Minus,
             (State::Start, '0') => State::Zero,
-            (State::Start, '1'..='9') => State::Above(u32::from(b - 48)),
-            (State::Minus, '1'..='9') => State::Below(u32::from(b - 48)),
-            (State::Above(n), '0'..='9') if n < 100_000 => State::Above(10 * n + u32::from(b - 48)),
-            (State::Below(n), '0'..='9') if n < 100_000 => State::Below(10 * n + u32::from(b - 48)),
+            (State::Start, '1'..='9') => State::Above(u32::from(b - b'0')),
+            (State::Minus, '1'..='9') => State::Below(u32::from(b - b'0')),
+            (State::Above(n), '0'..='9') if n < 100_000 => State::Above(
+                10 * n + u32::from(b - b'0'),
+            ),
+            (State::Below(n), '0'..='9') if n < 100_000 => State::Below(
+                10 * n + u32::from(b - b'0'),
+            ),
             _ => State::Bad,
         };
     }
@@ -63,6 +67,15 @@ impl Spelled for u32 {
             State::Above(n) => Some(n),
             State::Start | State::Minus | State::Below(_) | State::Bad => None,
         }
+    }
+}
+
+impl Spelled for usize {
+    ghost of_word = { number_of };
+
+    /// The same number, as a place or a node.
+    fn of_word(word: &[u8]) -> Option<usize> {
+        <u32 as Spelled>::of_word(word).map(|n| n as usize)
     }
 }
 
