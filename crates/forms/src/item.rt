@@ -49,6 +49,7 @@ impl Reader<'_> {
     fn item_after(&mut self, kind: ItemKind) -> Option<Item>
         ensures { Takes (item_after kind) self.old self.new result }
     {
+        // An arm for days and hours would have to tell them apart again.
         match kind {
             ItemKind::Days => {
                 let (days, running) = self.amount()?;

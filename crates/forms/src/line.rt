@@ -9,6 +9,7 @@ use crate::reader::Reader;
 use book::date::Bound;
 
 impl Reader<'_> {
+    // One function for an item and a date would take a closure with a contract of its own, and be longer than the two.
     /// A line's number and the item that is to stand there, up to the closing bracket.
     #[tactic(auto, unfolding(crate::specs::Lines::entry_at))]
     fn entry(&mut self) -> Option<(usize, Item)>
@@ -36,6 +37,7 @@ impl Reader<'_> {
     fn form_after(&mut self, command: Command) -> Option<Form>
         ensures { Takes (form_after command) self.old self.new result }
     {
+        // An arm for two commands would have to tell them apart again.
         match command {
             Command::Plan => Some(Form::Plan(self.word(b')')?)),
             Command::Enter => {

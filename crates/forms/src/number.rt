@@ -28,17 +28,14 @@ impl NumberReader {
     fn step(&mut self, b: u8)
         ensures { self.new.state ≡ stepped self.old.state b }
     {
+        let digit = u32::from(b.saturating_sub(b'0'));
         self.state = match (self.state, char::from(b)) {
             (State::Start, '-') => State::Minus,
             (State::Start, '0') => State::Zero,
-            (State::Start, '1'..='9') => State::Above(u32::from(b - b'0')),
-            (State::Minus, '1'..='9') => State::Below(u32::from(b - b'0')),
-            (State::Above(n), '0'..='9') if n < 100_000 => State::Above(
-                10 * n + u32::from(b - b'0'),
-            ),
-            (State::Below(n), '0'..='9') if n < 100_000 => State::Below(
-                10 * n + u32::from(b - b'0'),
-            ),
+            (State::Start, '1'..='9') => State::Above(digit),
+            (State::Minus, '1'..='9') => State::Below(digit),
+            (State::Above(n), '0'..='9') if n < 100_000 => State::Above(10 * n + digit),
+            (State::Below(n), '0'..='9') if n < 100_000 => State::Below(10 * n + digit),
             _ => State::Bad,
         };
     }

@@ -14,6 +14,7 @@ pub(crate) struct Word<'a> {
 }
 
 /// Whether a byte can stand in a word: letters, digits and the minus can.
+#[tactic(auto, unfolding(crate::specs::Words::in_word))]
 fn is_in_word(b: u8) -> bool
     ensures { result ≡ in_word b }
 {
