@@ -1,8 +1,8 @@
 -- What the reader answers, from what it read. Assumes nothing.
-use Rattle.std.proofs.Common.{◌≡◌, ℕ, ◌<◌, ◌≤◌, List, [], ◌++◌, length, drop, Some, None, sym, refl, ap, ◌∙◌, subst, arith}
+use Rattle.std.proofs.Common.{◌≡◌, ℕ, ◌<◌, ◌≤◌, List, [], ◌++◌, length, drop, Some, None, Ok, Err, sym, refl, ap, ◌∙◌, subst, arith}
 use Rattle.std.proofs.lemmas.List.{drop_all, length-drop, length-append}
 use Rattle.forms.specs.declared.form.Form.{Form}
-use Rattle.forms.specs.declared.reader.Next.TheVariants as next
+use Rattle.forms.specs.declared.reader.NoForm.{NoForm}
 use Rattle.forms.specs.Lines.{form_at}
 use Rattle.forms.specs.Spelling.{spelled}
 use Rattle.forms.specs.Texts.{Ends, Stands, Reads, Apart}
@@ -23,11 +23,11 @@ spelled_some f rest h =
     omega arith
 
 -- where nothing is left, that is the answer
-pub end_ends : (t : List ℕ) (at : ℕ) → length t ≤ at → Ends (drop at t) next.End
+pub end_ends : (t : List ℕ) (at : ℕ) → length t ≤ at → Ends (drop at t) (Ok None)
 end_ends t at past = (λ _. drop_all at t past, λ _. refl)
 
 -- and no form stood there
-pub end_reads : (t : List ℕ) (at : ℕ) (after : List ℕ) → length t ≤ at → Reads (drop at t) after next.End
+pub end_reads : (t : List ℕ) (at : ℕ) (after : List ℕ) → length t ≤ at → Reads (drop at t) after (Ok None)
 end_reads t at after past f rest = (
   λ a. absurd (let z : ◌≡◌ {A = ℕ} 0 1 = cc a.0 in omega arith),
   λ s. absurd (spelled_some f rest (sym (drop_all at t past) ∙ s.1)),
@@ -41,12 +41,12 @@ left_some t at within h =
     omega arith
 
 -- a form is not the end
-pub form_ends : (t : List ℕ) (at : ℕ) (f : Form) → at < length t → Ends (drop at t) (next.Form f)
+pub form_ends : (t : List ℕ) (at : ℕ) (f : Form) → at < length t → Ends (drop at t) (Ok (Some f))
 form_ends t at f within = (λ e. absurd (let z : ◌≡◌ {A = ℕ} 0 1 = cc in omega arith), λ e. absurd (left_some t at within e))
 
 -- what is no form is not the end either
-pub none_ends : (t : List ℕ) (at : ℕ) → at < length t → Ends (drop at t) next.NoForm
-none_ends t at within = (λ e. absurd (let z : ◌≡◌ {A = ℕ} 0 1 = cc in omega arith), λ e. absurd (left_some t at within e))
+pub none_ends : (t : List ℕ) (at : ℕ) (e : NoForm) → at < length t → Ends (drop at t) (Err e)
+none_ends t at why within = (λ e. absurd (let z : ◌≡◌ {A = ℕ} 0 1 = cc in omega arith), λ e. absurd (left_some t at within e))
 
 -- a form that was read stood there
 pub form_stands : (t : List ℕ) (at : ℕ) (f : Form) (e : ℕ) → form_at t at ≡ Some (f, e) → Stands f (drop at t) (drop e t)
@@ -59,7 +59,7 @@ pub form_answers : (t : List ℕ) (at : ℕ) (f : Form) (rest : List ℕ) → St
 form_answers t at f rest s = form_right.complete t at f (spelled f) rest (s.0, refl) s.1
 
 -- a form that was read stood there, and no other did
-pub form_reads : (t : List ℕ) (at : ℕ) (f : Form) (e : ℕ) → form_at t at ≡ Some (f, e) → Reads (drop at t) (drop e t) (next.Form f)
+pub form_reads : (t : List ℕ) (at : ℕ) (f : Form) (e : ℕ) → form_at t at ≡ Some (f, e) → Reads (drop at t) (drop e t) (Ok (Some f))
 form_reads t at f e h g rest = (
   λ a.
       let same : f ≡ g = cc a.0 in
@@ -69,12 +69,12 @@ form_reads t at f e h g rest = (
   λ s.
       let (m, h₂, d) = form_answers t at g rest s in
       let pair = some_same (f, e) (g, m) (sym h ∙ h₂) in
-      (ap (λ q. next.Form q.0) pair, ap (λ q. drop q.1 t) pair ∙ d),
+      (ap (λ q. Ok (Some q.0)) pair, ap (λ q. drop q.1 t) pair ∙ d),
 )
 
 -- where none was read, none stood there
-pub none_reads : (t : List ℕ) (at : ℕ) (after : List ℕ) → form_at t at ≡ None → Reads (drop at t) after next.NoForm
-none_reads t at after h g rest = (
+pub none_reads : (t : List ℕ) (at : ℕ) (after : List ℕ) (e : NoForm) → form_at t at ≡ None → Reads (drop at t) after (Err e)
+none_reads t at after why h g rest = (
   λ a. absurd (let z : ◌≡◌ {A = ℕ} 0 1 = cc a.0 in omega arith),
   λ s. let (m, h₂, d) = form_answers t at g rest s in absurd (none_some (g, m) (sym h ∙ h₂)),
 )

@@ -3,6 +3,7 @@ pub mod Choosing
 pub mod Dates
 pub mod Forms
 pub mod Items
+pub mod Known
 pub mod Named
 pub mod Numbers
 pub mod Rights

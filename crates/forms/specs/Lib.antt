@@ -5,5 +5,6 @@ pub mod Parts
 pub mod Reading
 pub mod Spelling
 pub mod States
+pub mod Steps
 pub mod Texts
 pub mod Words

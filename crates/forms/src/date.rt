@@ -2,11 +2,11 @@
 
 ghost use Rattle.std.specs.Prelude.{◌≡◌};
 ghost use Rattle.forms.specs.Parts.{point_of, point_at, date_at};
+ghost use Rattle.forms.specs.Steps.{Takes};
 
 use crate::form::Point;
-use crate::names::{PointKind, bound, point_kind};
-use crate::number::number;
-use crate::word::byte_at;
+use crate::names::PointKind;
+use crate::reader::Reader;
 use book::date::Bound;
 
 /// The event of a kind with a number.
@@ -20,22 +20,26 @@ fn point_of(kind: PointKind, n: usize) -> Point
     }
 }
 
-/// The event that a date names, with the space after it.
-fn point(text: &[u8], at: usize) -> Option<(Point, usize)>
-    ensures { result ≡ point_at text.now at }
-{
-    let (kind, at) = point_kind(text, at, b' ')?;
-    let (n, at) = number(text, at, b' ')?;
-    Some((point_of(kind, n as usize), at))
-}
+impl Reader<'_> {
+    /// The event that a date names, with the space after it.
+    #[tactic(auto, unfolding(crate::specs::Parts::point_at))]
+    fn point(&mut self) -> Option<Point>
+        ensures { Takes point_at self.old self.new result }
+    {
+        let kind = self.word(b' ')?;
+        let n = self.word(b' ')?;
+        Some(point_of(kind, n))
+    }
 
-/// A date between brackets: its event, its bound and its day.
-pub(crate) fn date(text: &[u8], at: usize) -> Option<((Point, Bound, u32), usize)>
-    ensures { result ≡ date_at text.now at }
-{
-    let at = byte_at(text, at, b'(')?;
-    let (point, at) = point(text, at)?;
-    let (bound, at) = bound(text, at, b' ')?;
-    let (day, at) = number(text, at, b')')?;
-    Some(((point, bound, day), at))
+    /// A date between brackets: its event, its bound and its day.
+    #[tactic(auto, unfolding(crate::specs::Parts::date_at))]
+    pub(crate) fn date(&mut self) -> Option<(Point, Bound, u32)>
+        ensures { Takes date_at self.old self.new result }
+    {
+        self.byte(b'(')?;
+        let point = self.point()?;
+        let bound = self.word(b' ')?;
+        let day = self.word(b')')?;
+        Some((point, bound, day))
+    }
 }

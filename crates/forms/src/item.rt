@@ -1,89 +1,78 @@
 //! What is to stand on a line of a book, as it is written between brackets.
 
-ghost use Rattle.std.specs.Prelude.{◌≡◌};
 ghost use Rattle.forms.specs.Parts.{amount_at, relation_at, arrow_at, item_after, item_at};
+ghost use Rattle.forms.specs.Steps.{Takes};
 
 use crate::form::Item;
-use crate::names::{ItemKind, bound, item_kind, kind, running};
-use crate::number::{lag, number};
-use crate::word::byte_at;
+use crate::names::ItemKind;
+use crate::reader::Reader;
 use activity::entry::{Activity, Relation, Running, Work};
 use arrow::entry::Arrow;
 
-/// How much work an activity is and whether it runs without a break, up to the closing bracket.
-fn amount(text: &[u8], at: usize) -> Option<((u32, Running), usize)>
-    ensures { result ≡ amount_at text.now at }
-{
-    let (amount, at) = number(text, at, b' ')?;
-    let (running, at) = running(text, at, b')')?;
-    Some(((amount, running), at))
-}
+impl Reader<'_> {
+    /// How much work an activity is and whether it runs without a break, up to the closing bracket.
+    #[tactic(auto, unfolding(crate::specs::Parts::amount_at))]
+    fn amount(&mut self) -> Option<(u32, Running)>
+        ensures { Takes amount_at self.old self.new result }
+    {
+        Some((self.word(b' ')?, self.word(b')')?))
+    }
 
-/// A relation after its first word, up to the closing bracket.
-fn relation(text: &[u8], at: usize) -> Option<(Relation, usize)>
-    ensures { result ≡ relation_at text.now at }
-{
-    let (kind, at) = kind(text, at, b' ')?;
-    let (bound, at) = bound(text, at, b' ')?;
-    let (first, at) = number(text, at, b' ')?;
-    let (second, at) = number(text, at, b' ')?;
-    let (lag, at) = lag(text, at, b')')?;
-    let relation = Relation {
-        kind,
-        bound,
-        first: first as usize,
-        second: second as usize,
-        lag,
-    };
-    Some((relation, at))
-}
+    /// A relation after its first word, up to the closing bracket.
+    #[tactic(auto, unfolding(crate::specs::Parts::relation_at))]
+    fn relation(&mut self) -> Option<Relation>
+        ensures { Takes relation_at self.old self.new result }
+    {
+        Some(Relation {
+            kind: self.word(b' ')?,
+            bound: self.word(b' ')?,
+            first: self.word(b' ')?,
+            second: self.word(b' ')?,
+            lag: self.word(b')')?,
+        })
+    }
 
-/// An arrow after its first word, up to the closing bracket.
-fn arrow(text: &[u8], at: usize) -> Option<(Arrow, usize)>
-    ensures { result ≡ arrow_at text.now at }
-{
-    let (from, at) = number(text, at, b' ')?;
-    let (to, at) = number(text, at, b' ')?;
-    let (days, at) = number(text, at, b')')?;
-    let arrow = Arrow {
-        from: from as usize,
-        to: to as usize,
-        days,
-    };
-    Some((arrow, at))
-}
+    /// An arrow after its first word, up to the closing bracket.
+    #[tactic(auto, unfolding(crate::specs::Parts::arrow_at))]
+    fn arrow(&mut self) -> Option<Arrow>
+        ensures { Takes arrow_at self.old self.new result }
+    {
+        Some(Arrow {
+            from: self.word(b' ')?,
+            to: self.word(b' ')?,
+            days: self.word(b')')?,
+        })
+    }
 
-/// An item after its first word, which says what kind it is.
-fn item_after(text: &[u8], at: usize, kind: ItemKind) -> Option<(Item, usize)>
-    ensures { result ≡ item_after kind text.now at }
-{
-    match kind {
-        ItemKind::Days => {
-            let ((days, running), at) = amount(text, at)?;
-            let work = Work::Days(days);
-            Some((Item::Activity(Activity { work, running }), at))
-        }
-        ItemKind::Hours => {
-            let ((hours, running), at) = amount(text, at)?;
-            let work = Work::Hours(hours);
-            Some((Item::Activity(Activity { work, running }), at))
-        }
-        ItemKind::Relation => {
-            let (relation, at) = relation(text, at)?;
-            Some((Item::Relation(relation), at))
-        }
-        ItemKind::Arrow => {
-            let (arrow, at) = arrow(text, at)?;
-            Some((Item::Arrow(arrow), at))
+    /// An item after its first word, which says what kind it is.
+    #[tactic(auto, unfolding(crate::specs::Parts::item_after))]
+    fn item_after(&mut self, kind: ItemKind) -> Option<Item>
+        ensures { Takes (item_after kind) self.old self.new result }
+    {
+        // An arm for days and hours would have to tell them apart again.
+        match kind {
+            ItemKind::Days => {
+                let (days, running) = self.amount()?;
+                let work = Work::Days(days);
+                Some(Item::Activity(Activity { work, running }))
+            }
+            ItemKind::Hours => {
+                let (hours, running) = self.amount()?;
+                let work = Work::Hours(hours);
+                Some(Item::Activity(Activity { work, running }))
+            }
+            ItemKind::Relation => Some(Item::Relation(self.relation()?)),
+            ItemKind::Arrow => Some(Item::Arrow(self.arrow()?)),
         }
     }
-}
 
-/// An item between brackets.
-pub(crate) fn item(text: &[u8], at: usize) -> Option<(Item, usize)>
-    ensures { result ≡ item_at text.now at }
-{
-    let at = byte_at(text, at, b'(')?;
-    let (kind, at) = item_kind(text, at, b' ')?;
-    item_after(text, at, kind)
+    /// An item between brackets.
+    #[tactic(auto, unfolding(crate::specs::Parts::item_at))]
+    pub(crate) fn item(&mut self) -> Option<Item>
+        ensures { Takes item_at self.old self.new result }
+    {
+        self.byte(b'(')?;
+        let kind = self.word(b' ')?;
+        self.item_after(kind)
+    }
 }

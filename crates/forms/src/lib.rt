@@ -10,4 +10,5 @@ pub mod mark;
 mod names;
 mod number;
 pub mod reader;
+mod spelled;
 mod word;

@@ -1,75 +1,71 @@
 //! A form, as it is written on a line.
 
-ghost use Rattle.std.specs.Prelude.{◌≡◌};
 ghost use Rattle.forms.specs.Lines.{entry_at, day_at, form_after, form_at};
+ghost use Rattle.forms.specs.Steps.{Takes};
 
-use crate::date::date;
 use crate::form::{Form, Item, Point};
-use crate::item::item;
-use crate::names::{Command, command_word, plan_kind};
-use crate::number::number;
-use crate::word::byte_at;
+use crate::names::Command;
+use crate::reader::Reader;
 use book::date::Bound;
 
-/// A line's number and the item that is to stand there, up to the closing bracket.
-fn entry(text: &[u8], at: usize) -> Option<((usize, Item), usize)>
-    ensures { result ≡ entry_at text.now at }
-{
-    let (line, at) = number(text, at, b' ')?;
-    let (item, at) = item(text, at)?;
-    let at = byte_at(text, at, b')')?;
-    Some(((line as usize, item), at))
-}
+impl Reader<'_> {
+    // One function for an item and a date would take a closure with a contract of its own, and be longer than the two.
+    /// A line's number and the item that is to stand there, up to the closing bracket.
+    #[tactic(auto, unfolding(crate::specs::Lines::entry_at))]
+    fn entry(&mut self) -> Option<(usize, Item)>
+        ensures { Takes entry_at self.old self.new result }
+    {
+        let line = self.word(b' ')?;
+        let item = self.item()?;
+        self.byte(b')')?;
+        Some((line, item))
+    }
 
-/// A line's number and the date that is to stand there, up to the closing bracket.
-fn day(text: &[u8], at: usize) -> Option<((usize, (Point, Bound, u32)), usize)>
-    ensures { result ≡ day_at text.now at }
-{
-    let (line, at) = number(text, at, b' ')?;
-    let (date, at) = date(text, at)?;
-    let at = byte_at(text, at, b')')?;
-    Some(((line as usize, date), at))
-}
+    /// A line's number and the date that is to stand there, up to the closing bracket.
+    #[tactic(auto, unfolding(crate::specs::Lines::day_at))]
+    fn day(&mut self) -> Option<(usize, (Point, Bound, u32))>
+        ensures { Takes day_at self.old self.new result }
+    {
+        let line = self.word(b' ')?;
+        let date = self.date()?;
+        self.byte(b')')?;
+        Some((line, date))
+    }
 
-/// A form after its first word, which says what it does, up to the closing bracket.
-fn form_after(text: &[u8], at: usize, command: Command) -> Option<(Form, usize)>
-    ensures { result ≡ form_after command text.now at }
-{
-    match command {
-        Command::Plan => {
-            let (kind, at) = plan_kind(text, at, b')')?;
-            Some((Form::Plan(kind), at))
-        }
-        Command::Enter => {
-            let ((line, item), at) = entry(text, at)?;
-            Some((Form::Enter(line, item), at))
-        }
-        Command::Alter => {
-            let ((line, item), at) = entry(text, at)?;
-            Some((Form::Alter(line, item), at))
-        }
-        Command::Strike => {
-            let (line, at) = number(text, at, b')')?;
-            Some((Form::Strike(line as usize), at))
-        }
-        Command::Date => {
-            let ((line, (point, bound, day)), at) = day(text, at)?;
-            Some((Form::Date(line, point, bound, day), at))
-        }
-        Command::Clear => {
-            let (line, at) = number(text, at, b')')?;
-            Some((Form::Clear(line as usize), at))
+    /// A form after its first word, which says what it does, up to the closing bracket.
+    #[tactic(auto, unfolding(crate::specs::Lines::form_after))]
+    fn form_after(&mut self, command: Command) -> Option<Form>
+        ensures { Takes (form_after command) self.old self.new result }
+    {
+        // An arm for two commands would have to tell them apart again.
+        match command {
+            Command::Plan => Some(Form::Plan(self.word(b')')?)),
+            Command::Enter => {
+                let (line, item) = self.entry()?;
+                Some(Form::Enter(line, item))
+            }
+            Command::Alter => {
+                let (line, item) = self.entry()?;
+                Some(Form::Alter(line, item))
+            }
+            Command::Strike => Some(Form::Strike(self.word(b')')?)),
+            Command::Date => {
+                let (line, (point, bound, day)) = self.day()?;
+                Some(Form::Date(line, point, bound, day))
+            }
+            Command::Clear => Some(Form::Clear(self.word(b')')?)),
         }
     }
-}
 
-/// A whole line: a form between brackets, and the byte that ends the line.
-pub(crate) fn form(text: &[u8], at: usize) -> Option<(Form, usize)>
-    ensures { result ≡ form_at text.now at }
-{
-    let at = byte_at(text, at, b'(')?;
-    let (command, at) = command_word(text, at, b' ')?;
-    let (form, at) = form_after(text, at, command)?;
-    let at = byte_at(text, at, b'\n')?;
-    Some((form, at))
+    /// A whole line: a form between brackets, and the byte that ends the line.
+    #[tactic(auto, unfolding(crate::specs::Lines::form_at))]
+    pub(crate) fn form(&mut self) -> Option<Form>
+        ensures { Takes form_at self.old self.new result }
+    {
+        self.byte(b'(')?;
+        let command = self.word(b' ')?;
+        let form = self.form_after(command)?;
+        self.byte(b'\n')?;
+        Some(form)
+    }
 }

@@ -1,10 +1,9 @@
 //! The words that name a command, a kind or a bound.
 
-ghost use Rattle.std.specs.Prelude.{◌≡◌};
-ghost use Rattle.forms.specs.Names.{command_at, plan_at, item_kind_at, running_at, kind_at, bound_at, point_kind_at};
+ghost use Rattle.forms.specs.Names.{command_of, plan_of, item_kind_of, running_of, kind_of, bound_of, point_kind_of};
 
 use crate::form::PlanKind;
-use crate::word::word_before;
+use crate::spelled::Spelled;
 use activity::entry::{Kind, Running};
 use book::date::Bound;
 
@@ -36,118 +35,95 @@ pub(crate) enum PointKind {
     Node,
 }
 
-/// A command, before the byte `b`.
-pub(crate) fn command_word(text: &[u8], at: usize, b: u8) -> Option<(Command, usize)>
-    ensures { result ≡ command_at text.now at b }
-{
-    let (word, next) = word_before(text, at, b)?;
-    if word.is(b"plan") {
-        Some((Command::Plan, next))
-    } else if word.is(b"enter") {
-        Some((Command::Enter, next))
-    } else if word.is(b"alter") {
-        Some((Command::Alter, next))
-    } else if word.is(b"strike") {
-        Some((Command::Strike, next))
-    } else if word.is(b"date") {
-        Some((Command::Date, next))
-    } else if word.is(b"clear") {
-        Some((Command::Clear, next))
-    } else {
-        None
+impl Spelled for Command {
+    ghost of_word = { command_of };
+
+    fn of_word(word: &[u8]) -> Option<Command> {
+        match word {
+            b"plan" => Some(Command::Plan),
+            b"enter" => Some(Command::Enter),
+            b"alter" => Some(Command::Alter),
+            b"strike" => Some(Command::Strike),
+            b"date" => Some(Command::Date),
+            b"clear" => Some(Command::Clear),
+            _ => None,
+        }
     }
 }
 
-/// Which book a plan is kept in, before the byte `b`.
-pub(crate) fn plan_kind(text: &[u8], at: usize, b: u8) -> Option<(PlanKind, usize)>
-    ensures { result ≡ plan_at text.now at b }
-{
-    let (word, next) = word_before(text, at, b)?;
-    if word.is(b"activity") {
-        Some((PlanKind::Activity, next))
-    } else if word.is(b"arrow") {
-        Some((PlanKind::Arrow, next))
-    } else {
-        None
+impl Spelled for PlanKind {
+    ghost of_word = { plan_of };
+
+    fn of_word(word: &[u8]) -> Option<PlanKind> {
+        match word {
+            b"activity" => Some(PlanKind::Activity),
+            b"arrow" => Some(PlanKind::Arrow),
+            _ => None,
+        }
     }
 }
 
-/// What kind of item it is, before the byte `b`.
-pub(crate) fn item_kind(text: &[u8], at: usize, b: u8) -> Option<(ItemKind, usize)>
-    ensures { result ≡ item_kind_at text.now at b }
-{
-    let (word, next) = word_before(text, at, b)?;
-    if word.is(b"activity") {
-        Some((ItemKind::Days, next))
-    } else if word.is(b"hours") {
-        Some((ItemKind::Hours, next))
-    } else if word.is(b"relation") {
-        Some((ItemKind::Relation, next))
-    } else if word.is(b"arrow") {
-        Some((ItemKind::Arrow, next))
-    } else {
-        None
+impl Spelled for ItemKind {
+    ghost of_word = { item_kind_of };
+
+    fn of_word(word: &[u8]) -> Option<ItemKind> {
+        match word {
+            b"activity" => Some(ItemKind::Days),
+            b"hours" => Some(ItemKind::Hours),
+            b"relation" => Some(ItemKind::Relation),
+            b"arrow" => Some(ItemKind::Arrow),
+            _ => None,
+        }
     }
 }
 
-/// Whether an activity runs without a break, before the byte `b`.
-pub(crate) fn running(text: &[u8], at: usize, b: u8) -> Option<(Running, usize)>
-    ensures { result ≡ running_at text.now at b }
-{
-    let (word, next) = word_before(text, at, b)?;
-    if word.is(b"whole") {
-        Some((Running::Whole, next))
-    } else if word.is(b"broken") {
-        Some((Running::Broken, next))
-    } else {
-        None
+impl Spelled for Running {
+    ghost of_word = { running_of };
+
+    fn of_word(word: &[u8]) -> Option<Running> {
+        match word {
+            b"whole" => Some(Running::Whole),
+            b"broken" => Some(Running::Broken),
+            _ => None,
+        }
     }
 }
 
-/// Which ends a relation ties, before the byte `b`.
-pub(crate) fn kind(text: &[u8], at: usize, b: u8) -> Option<(Kind, usize)>
-    ensures { result ≡ kind_at text.now at b }
-{
-    let (word, next) = word_before(text, at, b)?;
-    if word.is(b"FS") {
-        Some((Kind::FS, next))
-    } else if word.is(b"SS") {
-        Some((Kind::SS, next))
-    } else if word.is(b"FF") {
-        Some((Kind::FF, next))
-    } else if word.is(b"SF") {
-        Some((Kind::SF, next))
-    } else {
-        None
+impl Spelled for Kind {
+    ghost of_word = { kind_of };
+
+    fn of_word(word: &[u8]) -> Option<Kind> {
+        match word {
+            b"FS" => Some(Kind::FS),
+            b"SS" => Some(Kind::SS),
+            b"FF" => Some(Kind::FF),
+            b"SF" => Some(Kind::SF),
+            _ => None,
+        }
     }
 }
 
-/// Which side of a number is asked for, before the byte `b`.
-pub(crate) fn bound(text: &[u8], at: usize, b: u8) -> Option<(Bound, usize)>
-    ensures { result ≡ bound_at text.now at b }
-{
-    let (word, next) = word_before(text, at, b)?;
-    if word.is(b"least") {
-        Some((Bound::Least, next))
-    } else if word.is(b"most") {
-        Some((Bound::Most, next))
-    } else {
-        None
+impl Spelled for Bound {
+    ghost of_word = { bound_of };
+
+    fn of_word(word: &[u8]) -> Option<Bound> {
+        match word {
+            b"least" => Some(Bound::Least),
+            b"most" => Some(Bound::Most),
+            _ => None,
+        }
     }
 }
 
-/// What kind of event a date names, before the byte `b`.
-pub(crate) fn point_kind(text: &[u8], at: usize, b: u8) -> Option<(PointKind, usize)>
-    ensures { result ≡ point_kind_at text.now at b }
-{
-    let (word, next) = word_before(text, at, b)?;
-    if word.is(b"start") {
-        Some((PointKind::Start, next))
-    } else if word.is(b"finish") {
-        Some((PointKind::Finish, next))
-    } else if word.is(b"node") {
-        Some((PointKind::Node, next))
-    } else {
-        None
+impl Spelled for PointKind {
+    ghost of_word = { point_kind_of };
+
+    fn of_word(word: &[u8]) -> Option<PointKind> {
+        match word {
+            b"start" => Some(PointKind::Start),
+            b"finish" => Some(PointKind::Finish),
+            b"node" => Some(PointKind::Node),
+            _ => None,
+        }
     }
 }

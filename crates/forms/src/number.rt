@@ -1,10 +1,10 @@
 //! The number that a word writes: plain decimal, with no leading zero, of one to six digits.
 
 ghost use Rattle.std.specs.Prelude.{◌≡◌};
-ghost use Rattle.forms.specs.Reading.{number_at, lag_at};
-ghost use Rattle.forms.specs.States.{stepped, made, number_in, lag_in};
+ghost use Rattle.forms.specs.Reading.{number_of, lag_of};
+ghost use Rattle.forms.specs.States.{stepped, made};
 
-use crate::word::word_before;
+use crate::spelled::Spelled;
 
 /// What the bytes of a word make so far.
 #[derive(Clone, Copy)]
@@ -28,13 +28,14 @@ impl NumberReader {
     fn step(&mut self, b: u8)
         ensures { self.new.state ≡ stepped self.old.state b }
     {
+        let digit = u32::from(b.saturating_sub(b'0'));
         self.state = match (self.state, char::from(b)) {
             (State::Start, '-') => State::Minus,
             (State::Start, '0') => State::Zero,
-            (State::Start, '1'..='9') => State::Above(u32::from(b - 48)),
-            (State::Minus, '1'..='9') => State::Below(u32::from(b - 48)),
-            (State::Above(n), '0'..='9') if n < 100_000 => State::Above(10 * n + u32::from(b - 48)),
-            (State::Below(n), '0'..='9') if n < 100_000 => State::Below(10 * n + u32::from(b - 48)),
+            (State::Start, '1'..='9') => State::Above(digit),
+            (State::Minus, '1'..='9') => State::Below(digit),
+            (State::Above(n), '0'..='9') if n < 100_000 => State::Above(10 * n + digit),
+            (State::Below(n), '0'..='9') if n < 100_000 => State::Below(10 * n + digit),
             _ => State::Bad,
         };
     }
@@ -53,43 +54,38 @@ fn state_after(bytes: &[u8]) -> State
     reader.state
 }
 
-/// The number that a word writes, if it writes one with no sign.
-fn number_of(bytes: &[u8]) -> Option<u32>
-    ensures { result ≡ number_in (made bytes.now) }
-{
-    match state_after(bytes) {
-        State::Zero => Some(0),
-        State::Above(n) => Some(n),
-        State::Start | State::Minus | State::Below(_) | State::Bad => None,
+impl Spelled for u32 {
+    ghost of_word = { number_of };
+
+    /// The number that a word writes, if it writes one with no sign.
+    fn of_word(word: &[u8]) -> Option<u32> {
+        match state_after(word) {
+            State::Zero => Some(0),
+            State::Above(n) => Some(n),
+            State::Start | State::Minus | State::Below(_) | State::Bad => None,
+        }
     }
 }
 
-/// The lag that a word writes, if it writes one: a number, with a minus where it is below 0.
-fn lag_of(bytes: &[u8]) -> Option<i32>
-    ensures { result ≡ lag_in (made bytes.now) }
-{
-    match state_after(bytes) {
-        State::Zero => Some(0),
-        State::Above(n) => Some(n as i32),
-        State::Below(n) => Some(-(n as i32)),
-        State::Start | State::Minus | State::Bad => None,
+impl Spelled for usize {
+    ghost of_word = { number_of };
+
+    /// The same number, as a place or a node.
+    fn of_word(word: &[u8]) -> Option<usize> {
+        <u32 as Spelled>::of_word(word).map(|n| n as usize)
     }
 }
 
-/// A number, before the byte `b`.
-pub(crate) fn number(text: &[u8], at: usize, b: u8) -> Option<(u32, usize)>
-    ensures { result ≡ number_at text.now at b }
-{
-    let (word, next) = word_before(text, at, b)?;
-    let n = number_of(word.bytes)?;
-    Some((n, next))
-}
+impl Spelled for i32 {
+    ghost of_word = { lag_of };
 
-/// A lag, before the byte `b`.
-pub(crate) fn lag(text: &[u8], at: usize, b: u8) -> Option<(i32, usize)>
-    ensures { result ≡ lag_at text.now at b }
-{
-    let (word, next) = word_before(text, at, b)?;
-    let n = lag_of(word.bytes)?;
-    Some((n, next))
+    /// The lag that a word writes, if it writes one: a number, with a minus where it is below 0.
+    fn of_word(word: &[u8]) -> Option<i32> {
+        match state_after(word) {
+            State::Zero => Some(0),
+            State::Above(n) => Some(n as i32),
+            State::Below(n) => Some(-(n as i32)),
+            State::Start | State::Minus | State::Bad => None,
+        }
+    }
 }

@@ -1,9 +1,8 @@
-//! Words in a text, and the bytes between them.
+//! Words in a text.
 
-ghost use Rattle.std.specs.Prelude.{◌≡◌, IfSome};
-ghost use Rattle.std.specs.Option.{option_map};
-ghost use Rattle.std.specs.Str.{bytes_eq};
-ghost use Rattle.forms.specs.Words.{in_word, word_end, byte_at, word_before};
+ghost use Rattle.std.specs.Prelude.{◌≡◌};
+ghost use Rattle.std.specs.List.{prefix_len};
+ghost use Rattle.forms.specs.Words.{in_word};
 
 use crate::mark::{Mark, told_apart};
 
@@ -14,16 +13,8 @@ pub(crate) struct Word<'a> {
     pub(crate) bytes: &'a [u8],
 }
 
-impl Word<'_> {
-    /// Whether the word is `name`.
-    pub(crate) fn is(&self, name: &[u8]) -> bool
-        ensures { result ≡ bytes_eq self.now.bytes.now name.now }
-    {
-        self.bytes == name
-    }
-}
-
 /// Whether a byte can stand in a word: letters, digits and the minus can.
+#[tactic(auto, unfolding(crate::specs::Words::in_word))]
 fn is_in_word(b: u8) -> bool
     ensures { result ≡ in_word b }
 {
@@ -33,38 +24,9 @@ fn is_in_word(b: u8) -> bool
     }
 }
 
-/// Where the longest word from `at` on ends.
-fn word_end(text: &[u8], at: usize) -> usize
-    ensures { result ≡ word_end text.now at }
+/// How long the word is that a text begins with.
+pub(crate) fn word_length(text: &[u8]) -> usize
+    ensures { result ≡ prefix_len in_word text.now }
 {
-    let mut end = at;
-    while end < text.len() && is_in_word(text[end]) {
-        end += 1;
-    }
-    end
-}
-
-/// The place after the byte `b`, if it stands at `at`.
-pub(crate) fn byte_at(text: &[u8], at: usize, b: u8) -> Option<usize>
-    ensures { result ≡ byte_at text.now at b }
-{
-    if at < text.len() && text[at] == b {
-        Some(at + 1)
-    } else {
-        None
-    }
-}
-
-/// The longest word from `at` on and the place after the byte `b`, if that byte follows the word.
-pub(crate) fn word_before(text: &[u8], at: usize, b: u8) -> Option<(Word<'_>, usize)>
-    ensures word { option_map (λ p. (p.0.bytes.now, p.1)) result ≡ word_before text.now at b }
-    ensures place { IfSome result (λ p. p.0.place ≡ at) }
-{
-    let end = word_end(text, at);
-    if end < text.len() && text[end] == b {
-        let bytes = &text[at..end];
-        Some((Word { place: at, bytes }, end + 1))
-    } else {
-        None
-    }
+    text.iter().take_while(|b| is_in_word(**b)).count()
 }

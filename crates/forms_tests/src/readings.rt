@@ -4,11 +4,11 @@ use activity::entry::{Activity, Kind, Relation, Running, Work};
 use arrow::entry::Arrow;
 use book::date::Bound;
 use forms::form::{Form, Item, PlanKind, Point};
-use forms::reader::{Next, Reader};
+use forms::reader::{NoForm, Reader};
 use std::process::Abort;
 
 /// What the reader finds first.
-fn first(text: &[u8]) -> Next {
+fn first(text: &[u8]) -> Result<Option<Form>, NoForm> {
     let mut reader = Reader::new(text);
     reader.next()
 }
@@ -35,15 +35,15 @@ fn arrow(from: usize, to: usize, days: u32) -> Item {
 fn check_forms(rt: &impl Abort, cases: &[(&[u8], Form)]) {
     for (text, form) in cases {
         let mut reader = Reader::new(*text);
-        assert_eq!(rt; reader.next(), Next::Form(*form));
-        assert_eq!(rt; reader.next(), Next::End);
+        assert_eq!(rt; reader.next(), Ok(Some(*form)));
+        assert_eq!(rt; reader.next(), Ok(None));
     }
 }
 
 /// Checks that no text begins with a form.
 fn check_none(rt: &impl Abort, texts: &[&[u8]]) {
     for text in texts {
-        assert_eq!(rt; first(*text), Next::NoForm);
+        assert_eq!(rt; first(*text), Err(NoForm));
     }
 }
 
@@ -156,9 +156,9 @@ fn bytes_out_of_place(rt: HostRuntime) {
 #[test]
 fn one_form_after_another(rt: HostRuntime) {
     let mut reader = Reader::new(b"(plan arrow)\n(strike 1)\n(strike 01)\n");
-    assert_eq!(rt; reader.next(), Next::Form(Form::Plan(PlanKind::Arrow)));
-    assert_eq!(rt; reader.next(), Next::Form(Form::Strike(1)));
-    assert_eq!(rt; reader.next(), Next::NoForm);
-    assert_eq!(rt; reader.next(), Next::NoForm);
-    assert_eq!(rt; first(b""), Next::End);
+    assert_eq!(rt; reader.next(), Ok(Some(Form::Plan(PlanKind::Arrow))));
+    assert_eq!(rt; reader.next(), Ok(Some(Form::Strike(1))));
+    assert_eq!(rt; reader.next(), Err(NoForm));
+    assert_eq!(rt; reader.next(), Err(NoForm));
+    assert_eq!(rt; first(b""), Ok(None));
 }

@@ -1,7 +1,7 @@
-use Rattle.std.proofs.Common.{◌≡◌, drop, fold}
-use Rattle.forms.specs.States.{stepped, made}
+use Rattle.std.proofs.Common.{◌≡◌, take}
+use Rattle.forms.specs.States.{made}
 use Rattle.forms.proofs.number.state_after.Given as goal
 
--- the bytes that are left lead on to where all the bytes lead
+-- the state is what the bytes so far make
 abbrev pub invariant-loop-b : goal.invariant-loop-b
-invariant-loop-b l = fold stepped l.reader.state (drop l.b-index l.bytes) ≡ made l.bytes
+invariant-loop-b l = l.reader.state ≡ made (take l.b-index l.bytes)

@@ -3,13 +3,13 @@ use Rattle.std.proofs.lemmas.Int.{ints}
 use Rattle.forms.specs.declared.number.State.{State}
 use Rattle.forms.specs.States.{lag_in}
 use Rattle.forms.proofs.Numbers.{Writes, writes_made, Six}
-use Rattle.forms.proofs.number.lag_of.Goals as goal
+use Rattle.forms.proofs.number.I32Spelled.of_word.Goals as goal
 
 above : (c : goal.In-Above) → Six c.in-Above.n
-above c = (subst (λ (s : State). Writes s c.args.bytes.now) (sym c.in-Above.ensures) (writes_made c.args.bytes.now)).0
+above c = (subst (λ (s : State). Writes s c.args.word.now) (sym c.in-Above.ensures) (writes_made c.args.word.now)).0
 
 below : (c : goal.In-Below) → Six c.in-Below.n
-below c = (subst (λ (s : State). Writes s c.args.bytes.now) (sym c.in-Below.ensures) (writes_made c.args.bytes.now)).0
+below c = (subst (λ (s : State). Writes s c.args.word.now) (sym c.in-Below.ensures) (writes_made c.args.word.now)).0
 
 pub overflow_cast-result : goal.overflow_cast-result
 overflow_cast-result c = let h = above c in search rules
