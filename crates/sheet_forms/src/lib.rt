@@ -2,9 +2,8 @@
 
 #![tactic(auto)]
 
-mod figures;
 pub mod form;
+mod pieces;
 mod shown;
 mod size;
 pub mod text;
-mod write;

@@ -1,36 +1,19 @@
-//! The bytes of each form.
+//! The pieces of each form.
 
 ghost use Rattle.std.specs.Prelude.{◌≡◌, ◌+◌, ◌≤◌, ◌++◌, length, codes, decimal};
-ghost use Rattle.sheet_forms.specs.Shown.{shown, row_text, step_text, layer_text, number_of, float_of, floats_text, refuser, refused_text};
+ghost use Rattle.sheet_forms.specs.Shown.{shown, row_text, step_text, layer_text, number_of, window_text, float_of, floats_text, refuser, refused_text};
 ghost use Rattle.book.specs.Refusals.{number};
 ghost use Rattle.sheet_forms.specs.Texts.{text_of};
 
 use crate::form::{OwnedStep, Row, SheetForm, TextRefusal, Window};
+use crate::pieces::Pieces;
+use crate::size::Count;
 use crate::text::FormText;
 use book::refusal::Layer;
 use network::gap::Owner;
 
-/// A word and a number.
-fn counted(word: &[u8], n: u64) -> FormText
-    requires { length word.now ≤ 20 }
-    ensures { text_of result ≡ word.now ++ (decimal n ++ codes ")\n") }
-{
-    let mut text = FormText::blank();
-    text.push(word);
-    text.number(n);
-    text.push(b")\n");
-    text
-}
-
-/// By how much the latest time of a window passes the earliest.
-pub(crate) fn float_of(window: Window) -> u64
-    ensures { result ≡ float_of window }
-{
-    window.latest.saturating_sub(window.earliest)
-}
-
 /// The layer of an owner.
-pub(crate) fn layer_name(owner: Owner) -> &'static [u8]
+fn layer_name(owner: Owner) -> &'static [u8]
     ensures { result.now ≡ layer_text owner }
 {
     match owner {
@@ -41,7 +24,7 @@ pub(crate) fn layer_name(owner: Owner) -> &'static [u8]
 }
 
 /// The number of an owner in its layer; the floor has 0.
-pub(crate) fn number_of(owner: Owner) -> u64
+fn number_of(owner: Owner) -> u64
     ensures { result ≡ number_of owner }
 {
     match owner {
@@ -50,40 +33,8 @@ pub(crate) fn number_of(owner: Owner) -> u64
     }
 }
 
-impl FormText {
-    /// The total floats and the free float of a row more.
-    fn floats(&mut self, row: Row)
-        requires { self.old.count ≤ 138 }
-        ensures text { text_of self.new ≡ text_of self.old ++ floats_text row }
-        ensures few { self.new.count ≤ self.old.count + 62 }
-    {
-        self.number(float_of(row.start));
-        self.push(b" ");
-        self.number(float_of(row.finish));
-        self.push(b" ");
-        self.number(row.free);
-    }
-}
-
-/// A row.
-fn row_text(row: Row) -> FormText
-    ensures { text_of result ≡ row_text row }
-{
-    let mut text = FormText::blank();
-    text.push(b"(line ");
-    text.number(row.line as u64);
-    text.push(b" (start ");
-    text.window(row.start);
-    text.push(b") (finish ");
-    text.window(row.finish);
-    text.push(b") (float ");
-    text.floats(row);
-    text.push(b"))\n");
-    text
-}
-
 /// The layer that refuses.
-pub(crate) fn refuser_name(layer: Layer) -> &'static [u8]
+fn refuser_name(layer: Layer) -> &'static [u8]
     ensures { result.now ≡ refuser layer }
 {
     match layer {
@@ -94,52 +45,135 @@ pub(crate) fn refuser_name(layer: Layer) -> &'static [u8]
     }
 }
 
-/// The line of a text that is refused.
-fn refusal_text(refusal: TextRefusal) -> FormText
-    ensures { text_of result ≡ refused_text refusal.line refusal.layer (number refusal.why) }
+/// A word and a number.
+fn counted<P: Pieces>(pieces: &mut P, word: &[u8], n: u64)
+    requires blank { P.Pieces.taken pieces.old ≡ 0 }
+    requires short { length word.now ≤ 20 }
+    ensures { P.Pieces.grows pieces.old (word.now ++ (decimal n ++ codes ")\n")) pieces.new }
 {
-    let mut text = FormText::blank();
-    text.push(b"(refused ");
-    text.number(refusal.line as u64);
-    text.push(b" ");
-    text.push(refuser_name(refusal.layer));
-    text.push(b" ");
-    text.number(u64::from(refusal.why.number()));
-    text.push(b")\n");
-    text
+    pieces.push(word);
+    pieces.number(n);
+    pieces.push(b")\n");
 }
 
-/// A step of a ring.
-fn step_text(step: OwnedStep) -> FormText
-    ensures { text_of result ≡ step_text step }
-{
-    let mut text = FormText::blank();
-    text.push(b"(step ");
-    text.push(layer_name(step.owner));
-    text.push(b" ");
-    text.number(number_of(step.owner));
-    text.push(b" ");
-    text.number(step.gap.left as u64);
-    text.push(b" ");
-    text.number(step.gap.reached as u64);
-    text.push(b" ");
-    text.days(step.gap.days);
-    text.push(b")\n");
-    text
+impl Window {
+    /// By how much the latest time passes the earliest.
+    fn float(self) -> u64
+        ensures { result ≡ float_of self }
+    {
+        self.latest.saturating_sub(self.earliest)
+    }
+
+    /// The earliest and the latest time.
+    fn put<P: Pieces>(self, pieces: &mut P)
+        requires { P.Pieces.taken pieces.old ≤ 159 }
+        ensures text { P.Pieces.grows pieces.old (window_text self) pieces.new }
+        ensures few { P.Pieces.taken pieces.new ≤ P.Pieces.taken pieces.old + 41 }
+    {
+        pieces.number(self.earliest);
+        pieces.push(b" ");
+        pieces.number(self.latest);
+    }
+}
+
+impl Row {
+    /// The total floats and the free float.
+    fn put_floats<P: Pieces>(self, pieces: &mut P)
+        requires { P.Pieces.taken pieces.old ≤ 138 }
+        ensures text { P.Pieces.grows pieces.old (floats_text self) pieces.new }
+        ensures few { P.Pieces.taken pieces.new ≤ P.Pieces.taken pieces.old + 62 }
+    {
+        pieces.number(self.start.float());
+        pieces.push(b" ");
+        pieces.number(self.finish.float());
+        pieces.push(b" ");
+        pieces.number(self.free);
+    }
+
+    /// The line, its windows and its floats.
+    fn put<P: Pieces>(self, pieces: &mut P)
+        requires { P.Pieces.taken pieces.old ≡ 0 }
+        ensures { P.Pieces.grows pieces.old (row_text self) pieces.new }
+    {
+        pieces.push(b"(line ");
+        pieces.number(self.line as u64);
+        pieces.push(b" (start ");
+        self.start.put(pieces);
+        pieces.push(b") (finish ");
+        self.finish.put(pieces);
+        pieces.push(b") (float ");
+        self.put_floats(pieces);
+        pieces.push(b"))\n");
+    }
+}
+
+impl OwnedStep {
+    /// The owner, the two events and the days.
+    fn put<P: Pieces>(self, pieces: &mut P)
+        requires { P.Pieces.taken pieces.old ≡ 0 }
+        ensures { P.Pieces.grows pieces.old (step_text self) pieces.new }
+    {
+        pieces.push(b"(step ");
+        pieces.push(layer_name(self.owner));
+        pieces.push(b" ");
+        pieces.number(number_of(self.owner));
+        pieces.push(b" ");
+        pieces.number(self.gap.left as u64);
+        pieces.push(b" ");
+        pieces.number(self.gap.reached as u64);
+        pieces.push(b" ");
+        pieces.days(self.gap.days);
+        pieces.push(b")\n");
+    }
+}
+
+impl TextRefusal {
+    /// The text line, the layer and the number of the refusal.
+    fn put<P: Pieces>(self, pieces: &mut P)
+        requires { P.Pieces.taken pieces.old ≡ 0 }
+        ensures { P.Pieces.grows pieces.old (refused_text self.line self.layer (number self.why)) pieces.new }
+    {
+        pieces.push(b"(refused ");
+        pieces.number(self.line as u64);
+        pieces.push(b" ");
+        pieces.push(refuser_name(self.layer));
+        pieces.push(b" ");
+        pieces.number(u64::from(self.why.number()));
+        pieces.push(b")\n");
+    }
 }
 
 impl SheetForm {
+    /// The pieces of the form.
+    fn put<P: Pieces>(&self, pieces: &mut P)
+        requires { P.Pieces.taken pieces.old ≡ 0 }
+        ensures { P.Pieces.grows pieces.old (shown self.now) pieces.new }
+    {
+        match *self {
+            SheetForm::Length(days) => counted(pieces, b"(length ", u64::from(days)),
+            SheetForm::Line(row) => row.put(pieces),
+            SheetForm::Contradiction(steps) => counted(pieces, b"(contradiction ", steps as u64),
+            SheetForm::Step(step) => step.put(pieces),
+            SheetForm::Refused(refusal) => refusal.put(pieces),
+            SheetForm::End(count) => counted(pieces, b"(end ", count as u64),
+        }
+    }
+
     /// The bytes of the form.
     pub fn text(&self) -> FormText
         ensures { text_of result ≡ shown self.now }
     {
-        match *self {
-            SheetForm::Length(days) => counted(b"(length ", u64::from(days)),
-            SheetForm::Line(row) => row_text(row),
-            SheetForm::Contradiction(steps) => counted(b"(contradiction ", steps as u64),
-            SheetForm::Step(step) => step_text(step),
-            SheetForm::Refused(refusal) => refusal_text(refusal),
-            SheetForm::End(count) => counted(b"(end ", count as u64),
-        }
+        let mut text = FormText::blank();
+        self.put(&mut text);
+        text
+    }
+
+    /// How many bytes the form has.
+    pub fn size(&self) -> usize
+        ensures { result ≡ length (shown self.now) }
+    {
+        let mut count = Count { bytes: 0 };
+        self.put(&mut count);
+        count.bytes
     }
 }
