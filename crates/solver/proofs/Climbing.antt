@@ -234,6 +234,7 @@ module _ (arcs : List Arc) (count events : ℕ) (lows : AllLow arcs count events
         }) m all same first few (ap t climb.there ∙ low) (let x = ap t first in omega arith)
         (get_or-set_same steps i (floor_to at) (floor_to 0) (omega (arith, climb.long)) ∙ ap floor_to (sym climb.there))
 
+  module _ (steps : List Step) (i at : ℕ) (climb : Climb arcs count events t par r steps i at) where
     -- it does end
     pub climb_ends : Ends arcs count events t par r → events + 1 ≤ i → ⊥
     climb_ends (inl ring) past = climb.open_still ring.steps ring.some (omega (arith, ring.few)) ring.back

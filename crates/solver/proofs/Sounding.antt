@@ -1,6 +1,8 @@
 -- Arcs and gaps ask for the same, so that times at rest are right of the network. Assumes nothing.
-use Rattle.std.proofs.Common.{◌≡◌, ℕ, suc, ◌+◌, ◌≤◌, max, List, sym, refl, ap, ◌∙◌, ⊎_elim, arith}
+use Rattle.std.proofs.Common.{◌≡◌, ℕ, zero, suc, ◌+◌, ◌<◌, ◌≤◌, max, List, [], ◌∷◌, length, fold, take, unwrap_or, sym, refl, ap, ◌∙◌, ⊎_elim, arith}
 use Rattle.std.proofs.lemmas.Int.{ints}
+use Rattle.std.proofs.lemmas.List.Sums.{fold_more}
+use Rattle.std.specs.List.{reduce}
 use Rattle.std.proofs.lemmas.Bool.{cases_eq}
 use Rattle.network.specs.declared.gap.Gap.{Gap}
 use Rattle.network.specs.Meanings.{Meaning}
@@ -12,13 +14,20 @@ use Rattle.solver.specs.Arcs.{MeetsArc, SameGap, arc_at, Gathered}
 use Rattle.solver.specs.Rising.{time_at, Keeps, Rising}
 use Rattle.solver.specs.Falling.{Fallen}
 
-pub greatest_more : (t : ℕ → ℕ) (n : ℕ) → greatest t (n + 1) ≡ max (greatest t n) (t (n + 1))
+-- the greatest of the times of events 0 to n is the greatest of the first n + 1 times of the table
+pub greatest_fold : (ts : List ℕ) (n : ℕ) → n < length ts → fold max 0 (take (n + 1) ts) ≡ greatest (time_at ts) n
 unfolding greatest
-greatest_more t n = let one : n + 1 ≡ suc n = omega arith in ap (greatest t) one ∙ (let x = ap t one in omega arith)
+greatest_fold ts zero h = let x = fold_more max 0 ts 0 0 h in omega arith
+greatest_fold ts (suc n) h =
+    let x = fold_more max 0 ts (suc n) 0 h in
+    let y = greatest_fold ts n (omega arith) in
+    let one = ap (λ k. fold max 0 (take k ts)) (let z : suc n ≡ n + 1 = omega arith in z) in
+    omega arith
 
-pub greatest_first : (t : ℕ → ℕ) → greatest t 0 ≡ t 0
-unfolding greatest
-greatest_first t = refl
+-- and so is what `max` makes of them
+pub greatest_reduce : (ts : List ℕ) → unwrap_or (reduce max ts) 0 ≡ fold max 0 ts
+greatest_reduce [] = refl
+greatest_reduce (x ∷ xs) = ap (λ a. fold max a xs) (let z : x ≡ max 0 x = omega arith in z)
 
 to_arc : (events : ℕ) (t : ℕ → ℕ) (a : Arc) (g : Gap) → SameGap events a g → Meets t g → MeetsArc t a
 to_arc events t a g same met = let l = ap t same.leaves in let r = ap t same.reaches in let d = same.days in omega (arith, ints)

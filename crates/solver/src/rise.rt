@@ -8,7 +8,6 @@ mod look;
 mod settle;
 mod sweep;
 
-pub(crate) use crate::rise::begin::noughts;
 pub(crate) use crate::rise::longest::longest;
 
 /// How many events a network can have, event 0 included.

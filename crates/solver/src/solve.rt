@@ -5,7 +5,7 @@ ghost use Rattle.solver.specs.Solutions.{Solved};
 use crate::arcs::Arcs;
 use crate::order::Order;
 use crate::ring::Ring;
-use crate::rise::{Rise, noughts};
+use crate::rise::Rise;
 use crate::times::{Times, windows_of};
 use network::network::Network;
 
@@ -16,7 +16,7 @@ pub fn solve<N: Network>(network: &N) -> Result<Times, Ring>
 {
     let mut arcs = Arcs::none(network.events());
     arcs.take(network);
-    let mut rise = Rise::from_table(noughts());
+    let mut rise = Rise::begin();
     let mut order = Order::none();
     order.follow(&arcs);
     match rise.settle(&arcs, &order) {

@@ -72,9 +72,9 @@ impl Arcs {
         ensures events { self.new.events ≡ (N.Network.network network.now).events }
         ensures gaps { Gathered (N.Network.network network.now) self.new.arcs self.new.count }
     {
-        for before in 0..network.places() {
-            if let Some(gap) = network.gap(before + 1) {
-                self.arcs[self.count] = arc_of(before + 1, gap);
+        for place in 1..=network.places() {
+            if let Some(gap) = network.gap(place) {
+                self.arcs[self.count] = arc_of(place, gap);
                 self.count += 1;
             }
         }

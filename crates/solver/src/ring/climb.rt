@@ -41,13 +41,6 @@ fn floor_to(event: usize) -> Step
     }
 }
 
-/// A table of steps, to be filled.
-fn no_steps() -> [Step; 1024]
-    ensures { length result ≡ 1024 }
-{
-    [floor_to(0); 1024]
-}
-
 impl Rise {
     /// The ring that comes of going from event `r` along the parents: back to `r`, or to an event that was never
     /// raised, which the floor reaches.
@@ -58,9 +51,9 @@ impl Rise {
         requires ends { Ends arcs.now.arcs arcs.now.count arcs.now.events (time_at self.now.times) (time_at self.now.parents) r }
         ensures { (m : Meaning) → Gathered m arcs.now.arcs arcs.now.count → m.events ≡ arcs.now.events → Contradictory m (ring_steps result) }
     {
-        let mut steps = no_steps();
+        let mut steps = [floor_to(0); 1024];
         let mut at = r;
-        for i in 0..arcs.events + 1 {
+        for i in 0..=arcs.events {
             let parent = self.parents[at];
             if parent == 0 {
                 steps[i] = floor_to(at);

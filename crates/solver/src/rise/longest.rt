@@ -9,9 +9,5 @@ pub(crate) fn longest(times: &[u32; 1024], events: usize) -> u32
     requires { events ≤ 1023 }
     ensures { result ≡ greatest (time_at times.now) events }
 {
-    let mut most = times[0];
-    for before in 0..events {
-        most = most.max(times[before + 1]);
-    }
-    most
+    times[..=events].iter().copied().max().unwrap_or(0)
 }

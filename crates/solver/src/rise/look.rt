@@ -6,7 +6,6 @@ ghost use Rattle.solver.specs.Walks.{Risen, AllRooted, Walked, Looked};
 
 use crate::arcs::Arcs;
 use crate::rise::Rise;
-use crate::rise::begin::unmarked;
 
 impl Rise {
     /// Goes from event `e` along the parents, marking each event, until there is none or one is marked:
@@ -38,8 +37,8 @@ impl Rise {
         requires { Risen arcs.now.arcs arcs.now.count arcs.now.events self.now.times self.now.parents }
         ensures { Looked arcs.now.arcs arcs.now.count arcs.now.events self.now.times self.now.parents result }
     {
-        let mut marks = unmarked();
-        for e in 0..arcs.events + 1 {
+        let mut marks = [0; 1024];
+        for e in 0..=arcs.events {
             if let Some(r) = self.walk(arcs, &mut marks, e) {
                 return Some(r);
             }

@@ -3,7 +3,6 @@
 ghost use Rattle.std.specs.Prelude.{◌≡◌, if◌then◌else◌, Some, None, nat_le};
 ghost use Rattle.solver.specs.Solutions.{earliest_of, latest_of, Noughts};
 
-use crate::rise::noughts;
 use crate::times::Times;
 use network::network::Network;
 
@@ -14,12 +13,10 @@ impl Times {
         ensures noughts { Noughts result }
     {
         let events = network.events();
-        let earliest = noughts();
-        let latest = noughts();
         Times {
             events,
-            earliest,
-            latest,
+            earliest: [0; 1024],
+            latest: [0; 1024],
             length: 0,
         }
     }
@@ -42,21 +39,13 @@ impl Times {
     pub fn earliest(&self, event: usize) -> Option<u32>
         ensures { result ≡ (if nat_le event self.now.events then Some (earliest_of self.now event) else None) }
     {
-        if event <= self.events {
-            Some(self.earliest[event])
-        } else {
-            None
-        }
+        self.earliest[..=self.events].get(event).copied()
     }
 
     /// The latest time of an event; nothing where there is no such event.
     pub fn latest(&self, event: usize) -> Option<u32>
         ensures { result ≡ (if nat_le event self.now.events then Some (latest_of self.now event) else None) }
     {
-        if event <= self.events {
-            Some(self.latest[event])
-        } else {
-            None
-        }
+        self.latest[..=self.events].get(event).copied()
     }
 }

@@ -1,5 +1,4 @@
-use Rattle.std.proofs.Common.{ℕ, sym, ap, ◌∙◌, arith, rules}
-use Rattle.solver.specs.Rising.{time_at}
+use Rattle.std.proofs.Common.{sym, ◌∙◌, arith, rules}
 use Rattle.solver.proofs.Starting.{rising_none, risen_none, none_late}
 use Rattle.solver.proofs.solve.solve.Goals as goal
 
@@ -12,21 +11,19 @@ take-requires g c = search rules
 pub settle-requires : goal.settle-requires
 settle-requires g c =
     let arcs = c.take.new.self in
-    let zero = λ (e : ℕ). ap (λ ts. time_at ts e) c.from_table-rise.ensures.times ∙ c.noughts.ensures.zero e in
-    let rise = c.from_table-rise in
+    let rise = c.begin-rise in
     record {
-      risen = risen_none arcs.arcs arcs.count arcs.events rise.result.times rise.result.parents zero rise.ensures.parents;
-      bound = none_late arcs.arcs arcs.count arcs.events rise.result.times rise.result.parents zero rise.ensures.parents;
+      risen = risen_none arcs.arcs arcs.count arcs.events rise.result.times rise.result.parents rise.ensures.times rise.ensures.parents;
+      bound = none_late arcs.arcs arcs.count arcs.events rise.result.times rise.result.parents rise.ensures.times rise.ensures.parents;
     }
 
 pub windows-requires : goal.windows-requires
 windows-requires g c =
     let arcs = c.take.new.self in
-    let zero = λ (e : ℕ). ap (λ ts. time_at ts e) c.from_table-rise.ensures.times ∙ c.noughts.ensures.zero e in
-    let rise = c.from_table-rise in
+    let rise = c.begin-rise in
     let rest = c.in-Ok.ensures in
     record {
-      rising = rest.carries (λ _. 0) (rising_none arcs.arcs arcs.count arcs.events rise.result.times rise.result.parents zero rise.ensures.parents);
+      rising = rest.carries (λ _. 0) (rising_none arcs.arcs arcs.count arcs.events rise.result.times rise.result.parents rise.ensures.times rise.ensures.parents);
       first = rest.first;
       bound = rest.bound;
       keeps = rest.keeps;
@@ -35,11 +32,10 @@ windows-requires g c =
 pub ring_from-requires : goal.ring_from-requires
 ring_from-requires g c =
     let arcs = c.take.new.self in
-    let zero = λ (e : ℕ). ap (λ ts. time_at ts e) c.from_table-rise.ensures.times ∙ c.noughts.ensures.zero e in
-    let rise = c.from_table-rise in
+    let rise = c.begin-rise in
     let ringed = c.in-Err.ensures in
     record {
-      rising = ringed.carries (λ _. 0) (rising_none arcs.arcs arcs.count arcs.events rise.result.times rise.result.parents zero rise.ensures.parents);
+      rising = ringed.carries (λ _. 0) (rising_none arcs.arcs arcs.count arcs.events rise.result.times rise.result.parents rise.ensures.times rise.ensures.parents);
       inside = ringed.inside;
       ends = ringed.ends;
     }

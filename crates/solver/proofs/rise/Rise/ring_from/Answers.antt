@@ -1,12 +1,13 @@
-use Rattle.std.proofs.Common.{◌≡◌, ◌+◌, ◌-◌, ◌<◌, ◌≤◌, set, sym, refl, ap, ◌∙◌, subst, ⊎_elim, arith}
+use Rattle.std.proofs.Common.{◌≡◌, ◌+◌, ◌-◌, ◌<◌, ◌≤◌, replicate, set, sym, refl, ap, ◌∙◌, subst, ⊎_elim, arith}
 use Rattle.network.specs.Rings.{Contradictory}
 use Rattle.solver.specs.declared.arcs.Arcs.{Arcs}
 use Rattle.solver.specs.Arcs.{arc_at}
 use Rattle.solver.specs.Rising.{time_at, AllLow, parent_of}
 use Rattle.solver.specs.RingSteps.{step_of, last_first}
 use Rattle.solver.specs.Walks.{RingAt, Rooted}
-use Rattle.solver.proofs.Climbing.{Climb, climb_none, climb_more, ring_closed, ring_floored, ring_raised}
+use Rattle.solver.proofs.Climbing.{Climb, climb_ends, climb_none, climb_more, ring_closed, ring_floored, ring_raised}
 use Rattle.solver.proofs.rise.Rise.ring_from.Goals as goal
+use Rattle.solver.proofs.rise.Rise.ring_from.Goals.{Else-at-r, else-loop-i-test, then-loop-i-test+else-parent-eq0+else-at-r+else-i-i-end}
 
 lows : (arcs : Arcs) → AllLow arcs.arcs arcs.count arcs.events
 lows arcs k h = (arcs.lefts k h, (arcs.ends k h, (arcs.ups k h, arcs.downs k h)))
@@ -15,7 +16,7 @@ pub loop-i-init : goal.loop-i-init
 loop-i-init c =
     let arcs = c.args.arcs.now in
     let now = c.args.self.now in
-    climb_none arcs.arcs arcs.count arcs.events (lows arcs) (λ _. 0) (time_at now.times) (time_at now.parents) c.requires.rising 0 (λ e h. omega arith) c.args.r c.no_steps-steps.result c.no_steps-steps.ensures c.requires.inside
+    climb_none arcs.arcs arcs.count arcs.events (lows arcs) (λ _. 0) (time_at now.times) (time_at now.parents) c.requires.rising 0 (λ e h. omega arith) c.args.r (replicate 1024 c.floor_to-steps.result) refl c.requires.inside
 
 pub returns-then-parent-eq0 : goal.returns-then-parent-eq0
 returns-then-parent-eq0 c m all same =
@@ -24,13 +25,13 @@ returns-then-parent-eq0 c m all same =
     let t = time_at now.times in
     let par = time_at now.parents in
     let i = c.loop-i.i in
-    let few : i < arcs.events + 1 = c.loop-i-test.true in
+    let few : i < arcs.events + 1 = omega (arith, c.loop-i-test.true) in
     let small = arcs.small in
     let room : i < 1024 = omega arith in
     let none = c.if-parent-eq0.true in
     subst (λ s. Contradictory m (last_first (set c.loop-i.steps i s) (i + 1))) (sym c.floor_to.ensures)
     (⊎_elim
-    (λ (ring : RingAt arcs.arcs arcs.count arcs.events t par c.args.r). absurd (ring_raised arcs.arcs arcs.count arcs.events (lows arcs) (λ _. 0) t par c.requires.rising 0 (λ e h. omega arith) c.args.r c.loop-i.steps i c.loop-i.at c.loop-i.invariant room ring few none))
+    (λ (ring : RingAt arcs.arcs arcs.count arcs.events t par c.args.r). absurd (ring_raised arcs.arcs arcs.count arcs.events (lows arcs) (λ _. 0) t par c.requires.rising 0 (λ e h. omega arith) c.args.r c.loop-i.steps i c.loop-i.at c.loop-i.invariant ring few none))
     (λ (lifted : (c.args.r ≡ 0) × ((1 ≤ t 0) × Rooted arcs.arcs arcs.count arcs.events t par 102398976 (arcs.events + 1) 0)). ring_floored arcs.arcs arcs.count arcs.events (lows arcs) (λ _. 0) t par c.requires.rising 0 (λ e h. omega arith) c.args.r c.loop-i.steps i c.loop-i.at c.loop-i.invariant room none lifted.0 (λ e. refl) lifted.1.0 few m all same)
     c.requires.ends)
 
@@ -39,7 +40,7 @@ returns-then-at-r c m all same =
     let arcs = c.args.arcs.now in
     let now = c.args.self.now in
     let i = c.loop-i.i in
-    let few : i < arcs.events + 1 = c.loop-i-test.true in
+    let few : i < arcs.events + 1 = omega (arith, c.loop-i-test.true) in
     let small = arcs.small in
     let room : i < 1024 = omega arith in
     let some : 1 ≤ time_at now.parents c.loop-i.at = omega arith in
@@ -47,12 +48,13 @@ returns-then-at-r c m all same =
     let next : c.from-at.result ≡ (parent_of arcs.arcs arcs.count arcs.events (time_at now.parents) c.loop-i.at).left = c.from-at.ensures ∙ ap (λ p. (arc_at arcs.arcs (p - 1)).left) c.from.ensures in
     ring_closed arcs.arcs arcs.count arcs.events (lows arcs) (λ _. 0) (time_at now.times) (time_at now.parents) c.requires.rising 0 (λ e h. omega arith) c.args.r c.loop-i.steps i c.loop-i.at c.loop-i.invariant room some c.step_of.result is (sym next ∙ c.if-at-r.true) few m all same
 
-pub loop-i-preserved : goal.loop-i-preserved
-loop-i-preserved c =
+-- the climb goes on
+further : (c : Else-at-r) → Climb c.args.arcs.now.arcs c.args.arcs.now.count c.args.arcs.now.events (time_at c.args.self.now.times) (time_at c.args.self.now.parents) c.args.r (set c.loop-i.steps c.loop-i.i c.step_of.result) (c.loop-i.i + 1) c.from-at.result
+further c =
     let arcs = c.args.arcs.now in
     let now = c.args.self.now in
     let i = c.loop-i.i in
-    let few : i < arcs.events + 1 = c.loop-i-test.true in
+    let few : i < arcs.events + 1 = omega (arith, c.loop-i-test.true) in
     let small = arcs.small in
     let room : i < 1024 = omega arith in
     let some : 1 ≤ time_at now.parents c.loop-i.at = omega arith in
@@ -60,3 +62,23 @@ loop-i-preserved c =
     let next : c.from-at.result ≡ (parent_of arcs.arcs arcs.count arcs.events (time_at now.parents) c.loop-i.at).left = c.from-at.ensures ∙ ap (λ p. (arc_at arcs.arcs (p - 1)).left) c.from.ensures in
     subst (Climb arcs.arcs arcs.count arcs.events (time_at now.times) (time_at now.parents) c.args.r (set c.loop-i.steps i c.step_of.result) (i + 1)) (sym next)
     (climb_more arcs.arcs arcs.count arcs.events (lows arcs) (λ _. 0) (time_at now.times) (time_at now.parents) c.requires.rising 0 (λ e h. omega arith) c.args.r c.loop-i.steps i c.loop-i.at c.loop-i.invariant room some c.step_of.result is (λ back. c.if-at-r.false (next ∙ back)))
+
+pub loop-i-preserved : goal.loop-i-preserved
+loop-i-preserved c = further (goal.at.loop-i-preserved c).Else-at-r
+
+pub unreachable-requires : goal.unreachable-requires
+unreachable-requires c =
+    let arcs = c.args.arcs.now in
+    let now = c.args.self.now in
+    let par = time_at now.parents in
+    let small = arcs.small in
+    elim c.loop-i-test.branch [
+      | else-loop-i-test w ↦ omega (arith, w.loop-i-test.false)
+      | then-loop-i-test+else-parent-eq0+else-at-r+else-i-i-end w ↦
+          let room : c.loop-i.i < 1024 = omega arith in
+          let some : 1 ≤ par c.loop-i.at = omega (arith, w.if-parent-eq0.false) in
+          let is = w.step_of.ensures ∙ ap (λ p. step_of (arc_at arcs.arcs (p - 1))) w.from.ensures in
+          let next : w.from-at.result ≡ (parent_of arcs.arcs arcs.count arcs.events par c.loop-i.at).left = w.from-at.ensures ∙ ap (λ p. (arc_at arcs.arcs (p - 1)).left) w.from.ensures in
+          let on = climb_more arcs.arcs arcs.count arcs.events (lows arcs) (λ _. 0) (time_at now.times) par c.requires.rising 0 (λ e h. omega arith) c.args.r c.loop-i.steps c.loop-i.i c.loop-i.at c.loop-i.invariant room some w.step_of.result is (λ back. w.if-at-r.false (next ∙ back)) in
+          climb_ends arcs.arcs arcs.count arcs.events (lows arcs) (λ _. 0) (time_at now.times) par c.requires.rising 0 (λ e h. omega arith) c.args.r _ _ _ on c.requires.ends (omega arith)
+    ]

@@ -1,14 +1,13 @@
-use Rattle.std.proofs.Common.{◌+◌, max, sym, ap, ◌∙◌, arith}
-use Rattle.network.specs.Schedules.{greatest}
-use Rattle.solver.specs.Rising.{time_at}
-use Rattle.solver.proofs.Sounding.{greatest_more, greatest_first}
+use Rattle.std.proofs.Common.{◌≡◌, ◌+◌, max, take, unwrap_or, option_map, sym, ap, ◌∙◌, arith}
+use Rattle.std.specs.List.{reduce}
+use Rattle.std.proofs.lemmas.Iterator.{YieldsList-from_slice}
+use Rattle.std.proofs.lemmas.Iterator.Adapters.{option_map_id}
+use Rattle.std.proofs.lemmas.Iterator.Consumers.{YieldsList-from_copied, max_from_yields_List}
+use Rattle.solver.proofs.Sounding.{greatest_reduce, greatest_fold}
 use Rattle.solver.proofs.rise.longest.longest.Goals as goal
 
-pub loop-before-init : goal.loop-before-init
-loop-before-init c = sym (greatest_first (time_at c.args.times.now))
-
-pub loop-before-preserved : goal.loop-before-preserved
-loop-before-preserved c = let more = greatest_more (time_at c.args.times.now) c.loop-before.before in c.max-most.ensures ∙ ap (λ x. max x (time_at c.args.times.now (c.loop-before.before + 1))) c.loop-before.invariant ∙ sym more
-
 pub returns : goal.returns
-returns c = c.loop-before.invariant ∙ ap (greatest (time_at c.args.times.now)) (omega arith)
+returns c =
+    let first = take (c.args.events + 1) c.args.times.now in
+    let found : option_map (λ x. x) c.max.result ≡ reduce max first = max_from_yields_List c.copied.result c.max.result c.max.ensures.ran (YieldsList-from_copied (YieldsList-from_slice first cc)) in
+    c.unwrap_or.ensures ∙ ap (λ o. unwrap_or o 0) (sym (option_map_id c.max.result) ∙ found) ∙ greatest_reduce first ∙ greatest_fold c.args.times.now c.args.events (omega arith)
