@@ -17,10 +17,6 @@ pub(crate) fn poured(form: SheetForm, out: &mut [u8]) -> Result<usize, Refused>
         out[..count].copy_from_slice(bytes);
         Ok(count)
     } else {
-        Err(Refused {
-            why: Refusal::BufferTooShort,
-            layer: Layer::Plan,
-            place: 0,
-        })
+        Err(Refusal::BufferTooShort.at(Layer::Plan, 0))
     }
 }

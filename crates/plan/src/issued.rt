@@ -27,11 +27,7 @@ pub struct IssuedPlan<B: Book> {
 fn refused(why: Refusal, place: usize) -> Refused
     ensures { result ≡ refused_at why place }
 {
-    Refused {
-        why,
-        layer: Layer::Plan,
-        place,
-    }
+    why.at(Layer::Plan, place)
 }
 
 impl<B: Book> IssuedPlan<B> {

@@ -64,10 +64,6 @@ where
     if rows.fits(out.len()) {
         Ok(rows.written(out))
     } else {
-        Err(Refused {
-            why: Refusal::BufferTooShort,
-            layer: Layer::Plan,
-            place: 0,
-        })
+        Err(Refusal::BufferTooShort.at(Layer::Plan, 0))
     }
 }
