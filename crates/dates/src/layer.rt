@@ -4,8 +4,7 @@ ghost use Rattle.std.specs.Prelude.{◌≡◌};
 ghost use Rattle.book.specs.Calls.{layer as layering, hears};
 ghost use Rattle.book.specs.Layers.{added, asked, date_in_range};
 ghost use Rattle.book.specs.Past.{InStep};
-ghost use Rattle.table.specs.Standing.{standing};
-ghost use Rattle.dates.specs.Layered.{layered};
+ghost use Rattle.dates.specs.Layered.{over};
 
 use book::date::{Bound, Date};
 use book::range::is_within;
@@ -64,8 +63,8 @@ fn in_range(events: usize, d: Date) -> bool
 impl<B: Book> Dated<B> {
     /// Lays a new date layer over a book: the date places that it adds are empty.
     pub fn over(below: B) -> Dated<B>
-        ensures after { layered (B.Book.meaning result.below) (standing result.own) ≡ hears (B.Book.meaning below) layering }
-        ensures past { InStep (B.Book.meaning below) (layered (B.Book.meaning result.below) (standing result.own)) layering }
+        ensures after { over B.Book.meaning result ≡ hears (B.Book.meaning below) layering }
+        ensures past { InStep (B.Book.meaning below) (over B.Book.meaning result) layering }
     {
         Dated {
             below,

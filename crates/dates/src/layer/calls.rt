@@ -7,7 +7,7 @@ ghost use Rattle.book.specs.Calls.{on_date, on_clear, by, answered, with_date, r
 ghost use Rattle.book.specs.Layers.{added};
 ghost use Rattle.book.specs.Refusals.{told};
 ghost use Rattle.table.specs.Standing.{standing};
-ghost use Rattle.dates.specs.Layered.{layered};
+ghost use Rattle.dates.specs.Layered.{over};
 ghost use Rattle.dates.specs.LayeredLemmas.{layered_lawful};
 ghost use Rattle.std.proofs.Common.{rules};
 
@@ -21,7 +21,7 @@ use network::network::Network;
 impl<B: Book> Dated<B> {
     /// The refusal that meets a dating, if any.
     fn on_date(&self, q: usize, d: Date) -> Result<(), Refusal>
-        ensures { result_err result ≡ on_date (layered (B.Book.meaning self.now.below) (standing self.now.own)) q d }
+        ensures { result_err result ≡ on_date (over B.Book.meaning self.now) q d }
     {
         if !is_within(q, self.dates()) {
             return Err(Refusal::NoSuchDatePlace);
@@ -37,7 +37,7 @@ impl<B: Book> Dated<B> {
 
     /// The refusal that meets a clearing, if any.
     fn on_clear(&self, q: usize) -> Result<(), Refusal>
-        ensures { result_err result ≡ on_clear (layered (B.Book.meaning self.now.below) (standing self.now.own)) q }
+        ensures { result_err result ≡ on_clear (over B.Book.meaning self.now) q }
     {
         if !is_within(q, self.dates()) {
             return Err(Refusal::NoSuchDatePlace);
@@ -51,8 +51,8 @@ impl<B: Book> Dated<B> {
     /// A dating of a lower date place: it goes down, and the answer comes up whole.
     fn date_below(&mut self, q: usize, d: Date) -> Result<(), Refused>
         requires { q ≤ (B.Book.meaning self.old.below).rule.dates }
-        ensures answer { told result ≡ refusal (layered (B.Book.meaning self.old.below) (standing self.old.own)) (dating q d) }
-        ensures after { layered (B.Book.meaning self.new.below) (standing self.new.own) ≡ hears (layered (B.Book.meaning self.old.below) (standing self.old.own)) (dating q d) }
+        ensures answer { told result ≡ refusal (over B.Book.meaning self.old) (dating q d) }
+        ensures after { over B.Book.meaning self.new ≡ hears (over B.Book.meaning self.old) (dating q d) }
     {
         self.below.date(q, d)
     }
@@ -60,8 +60,8 @@ impl<B: Book> Dated<B> {
     /// A clearing of a lower date place: it goes down, and the answer comes up whole.
     fn clear_below(&mut self, q: usize) -> Result<(), Refused>
         requires { q ≤ (B.Book.meaning self.old.below).rule.dates }
-        ensures answer { told result ≡ refusal (layered (B.Book.meaning self.old.below) (standing self.old.own)) (clearing q) }
-        ensures after { layered (B.Book.meaning self.new.below) (standing self.new.own) ≡ hears (layered (B.Book.meaning self.old.below) (standing self.old.own)) (clearing q) }
+        ensures answer { told result ≡ refusal (over B.Book.meaning self.old) (clearing q) }
+        ensures after { over B.Book.meaning self.new ≡ hears (over B.Book.meaning self.old) (clearing q) }
     {
         self.below.clear(q)
     }
@@ -76,7 +76,7 @@ impl<B: Book> Dated<B> {
         requires above { (B.Book.meaning self.old.below).rule.dates < q }
         requires room { result_err verdict ≡ None → q - (B.Book.meaning self.old.below).rule.dates ≤ added (B.Book.meaning self.old.below).rule.places }
         ensures answer { told result ≡ by Dates q (result_err verdict) }
-        ensures after { layered (B.Book.meaning self.new.below) (standing self.new.own) ≡ answered (by Dates q (result_err verdict)) (with_date (layered (B.Book.meaning self.old.below) (standing self.old.own)) q stands) (layered (B.Book.meaning self.old.below) (standing self.old.own)) }
+        ensures after { over B.Book.meaning self.new ≡ answered (by Dates q (result_err verdict)) (with_date (over B.Book.meaning self.old) q stands) (over B.Book.meaning self.old) }
     {
         verdict.map_err(|why| why.at(Layer::Dates, q))?;
         self.own.put(q - self.below.dates(), stands);
@@ -87,7 +87,7 @@ impl<B: Book> Dated<B> {
 impl<B: Book> Book for Dated<B> {
     type Entry = B::Entry;
 
-    ghost meaning = { λ s. layered (B.Book.meaning s.below) (standing s.own) };
+    ghost meaning = { λ s. over B.Book.meaning s };
 
     ghost made = { Prim.search rules };
 

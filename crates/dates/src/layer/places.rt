@@ -4,7 +4,7 @@ ghost use Rattle.std.specs.Prelude.{◌≡◌, if◌then◌else◌, Some, None};
 ghost use Rattle.book.specs.Layers.{asked, date_in_range};
 ghost use Rattle.book.specs.Rules.{after, network_of};
 ghost use Rattle.table.specs.Standing.{standing};
-ghost use Rattle.dates.specs.Layered.{layered};
+ghost use Rattle.dates.specs.Layered.{layered, over};
 ghost use Rattle.book.proofs.Lawful.{network_lawful};
 ghost use Rattle.book.proofs.Layers.{layer_lawful};
 
@@ -26,7 +26,7 @@ impl<B: Book> Dated<B> {
 }
 
 impl<B: Book> Network for Dated<B> {
-    ghost network = { λ s. network_of (layered (B.Book.meaning s.below) (standing s.own)) };
+    ghost network = { λ s. network_of (over B.Book.meaning s) };
 
     ghost lawful = { λ n.
         let m = B.Book.meaning n.below in
