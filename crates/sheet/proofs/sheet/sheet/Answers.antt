@@ -1,4 +1,4 @@
-use Rattle.std.proofs.Common.{◌≡◌, true, false, leb, ◌++◌, length, drop, Ok, sym, ap, ◌∙◌, subst, rules}
+use Rattle.std.proofs.Common.{◌≡◌, true, false, leb, ◌++◌, length, drop, Ok, Err, sym, ap, ◌∙◌, subst, rules}
 use Rattle.std.proofs.lemmas.Bool.{cond-true, cond-false}
 use Rattle.network.specs.Meanings.{Lawful}
 use Rattle.book.specs.Rules.{network_of}
@@ -37,6 +37,6 @@ returns-else-fits g c =
     record {
       forms = left_of g.B.Entry.Spanned.span_of g.B.Book.meaning rows at.Head;
       sheet = sheet_right g.B.Entry.Spanned.span_of m lawful plan.outcome rooms.alone.days rooms.both.days c.rooms_of-rooms.ensures;
-      told = sym (cond-false _ _ _ test);
+      told = ap Err c.at.ensures ∙ sym (cond-false _ _ _ test);
       bytes = sym (cond-false _ _ _ test);
     }
