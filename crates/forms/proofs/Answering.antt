@@ -1,5 +1,6 @@
 -- What the reader answers, from what it read. Assumes nothing.
 use Rattle.std.proofs.Common.{◌≡◌, ℕ, ◌<◌, ◌≤◌, List, [], ◌++◌, length, drop, Some, None, Ok, Err, sym, refl, ap, ◌∙◌, subst, arith}
+use Rattle.std.proofs.lemmas.Option.{none-some, same_Some}
 use Rattle.std.proofs.lemmas.List.{drop_all, length-drop, length-append}
 use Rattle.forms.specs.declared.form.Form.{Form}
 use Rattle.forms.specs.declared.reader.NoForm.{NoForm}
@@ -7,7 +8,6 @@ use Rattle.forms.specs.Lines.{form_at}
 use Rattle.forms.specs.Spelling.{spelled}
 use Rattle.forms.specs.Texts.{Ends, Stands, Reads, Apart}
 use Rattle.forms.proofs.Forms.{form_right}
-use Rattle.forms.proofs.Rights.{none_some, some_same}
 
 -- a line is not empty
 pub spelled_long : (f : Form) → 0 < length (spelled f)
@@ -68,7 +68,7 @@ form_reads t at f e h g rest = (
       subst P same (stood.0, stood.1 ∙ ap (λ z. spelled f ++ z) a.1),
   λ s.
       let (m, h₂, d) = form_answers t at g rest s in
-      let pair = some_same (f, e) (g, m) (sym h ∙ h₂) in
+      let pair = same_Some (f, e) (g, m) (sym h ∙ h₂) in
       (ap (λ q. Ok (Some q.0)) pair, ap (λ q. drop q.1 t) pair ∙ d),
 )
 
@@ -76,7 +76,7 @@ form_reads t at f e h g rest = (
 pub none_reads : (t : List ℕ) (at : ℕ) (after : List ℕ) (e : NoForm) → form_at t at ≡ None → Reads (drop at t) after (Err e)
 none_reads t at after why h g rest = (
   λ a. absurd (let z : ◌≡◌ {A = ℕ} 0 1 = cc a.0 in omega arith),
-  λ s. let (m, h₂, d) = form_answers t at g rest s in absurd (none_some (g, m) (sym h ∙ h₂)),
+  λ s. let (m, h₂, d) = form_answers t at g rest s in absurd (none-some (g, m) (sym h ∙ h₂)),
 )
 
 -- less is left after a form
@@ -92,5 +92,5 @@ all_apart f g r s few₁ few₂ same =
     let t = spelled f ++ r in
     let (e₁, h₁, d₁) = form_answers t 0 f r (few₁, refl) in
     let (e₂, h₂, d₂) = form_answers t 0 g s (few₂, same) in
-    let pair = some_same (f, e₁) (g, e₂) (sym h₁ ∙ h₂) in
+    let pair = same_Some (f, e₁) (g, e₂) (sym h₁ ∙ h₂) in
     (ap (λ q. q.0) pair, sym d₁ ∙ ap (λ q. drop q.1 t) pair ∙ d₂)

@@ -2,6 +2,7 @@
 use Rattle.std.proofs.Common.{◌≡◌, ℕ, zero, suc, ◌+◌, ◌-◌, ◌*◌, ◌/◌, ◌%◌, ◌<◌, ◌≤◌, true, false, ◌&&◌, eqb, ltb, leb, List, [], ◌∷◌, ℤ, pos, negsuc, neg_ℤ, nat_abs, Some, decimal, fold, sym, ap, ◌∙◌, subst, ⊎_elim, arith}
 use Rattle.std.specs.Fmt.{signed_decimal}
 use Rattle.std.specs.Str.{bytes_eq}
+use Rattle.std.proofs.lemmas.Option.{none-some, same_Some}
 use Rattle.std.proofs.lemmas.Fmt.{decimal_digit, decimal_by_steps}
 use Rattle.std.proofs.lemmas.Slice.Eq.{bytes_eq-Decides}
 use Rattle.std.proofs.lemmas.List.Sums.{fold_push}
@@ -15,16 +16,15 @@ use Rattle.forms.specs.Spelling.{Few}
 use Rattle.forms.specs.States.{stepped, made, number_in, lag_in}
 use Rattle.forms.specs.Words.{in_word}
 use Rattle.forms.proofs.Numbers.{Writes, writes_made, Six}
-use Rattle.forms.proofs.Rights.{none_some, some_same}
 use Rattle.forms.proofs.Runs.{Words, all_in, decimal_in}
 
 -- what is chosen is spelled so
 pub chosen_to : {X : Type 0} (sp : X → List ℕ) (xs : List X) (w : List ℕ) (x : X) → chosen sp xs w ≡ Some x → w ≡ sp x
-chosen_to sp [] w x h = absurd (none_some x h)
+chosen_to sp [] w x h = absurd (none-some x h)
 chosen_to sp (y ∷ xs) w x h =
     ⊎_elim
     (λ (same : bytes_eq w (sp y) ≡ true).
-    (bytes_eq-Decides w (sp y)).0 same ∙ ap sp (some_same y x (sym (cond-true (bytes_eq w (sp y)) (Some y) (chosen sp xs w) same) ∙ h)))
+    (bytes_eq-Decides w (sp y)).0 same ∙ ap sp (same_Some y x (sym (cond-true (bytes_eq w (sp y)) (Some y) (chosen sp xs w) same) ∙ h)))
     (λ (other : bytes_eq w (sp y) ≡ false). chosen_to sp xs w x (sym (cond-false (bytes_eq w (sp y)) (Some y) (chosen sp xs w) other) ∙ h))
     (cases_Bool (bytes_eq w (sp y)))
 
@@ -93,12 +93,12 @@ zero_made = ap made (decimal_digit 0 (omega arith))
 
 -- a number as it is read
 number_to : (s : State) (w : List ℕ) (n : ℕ) → Writes s w → number_in s ≡ Some n → Few n × (w ≡ decimal n)
-number_to Start w n h e = absurd (none_some n e)
-number_to Minus w n h e = absurd (none_some n e)
-number_to Zero w n h e = let same = some_same 0 n e in (omega arith, h ∙ ap decimal same)
-number_to (Above m) w n h e = let same = some_same m n e in (omega arith, h.1 ∙ ap decimal same)
-number_to (Below m) w n h e = absurd (none_some n e)
-number_to Bad w n h e = absurd (none_some n e)
+number_to Start w n h e = absurd (none-some n e)
+number_to Minus w n h e = absurd (none-some n e)
+number_to Zero w n h e = let same = same_Some 0 n e in (omega arith, h ∙ ap decimal same)
+number_to (Above m) w n h e = let same = same_Some m n e in (omega arith, h.1 ∙ ap decimal same)
+number_to (Below m) w n h e = absurd (none-some n e)
+number_to Bad w n h e = absurd (none-some n e)
 
 -- the digits of a number are read as that number
 number_from : (n : ℕ) → Few n → number_of (decimal n) ≡ Some n
@@ -128,12 +128,12 @@ minus_to (suc m) w six h = (six.1, h)
 
 -- a lag as it is read
 lag_to : (s : State) (w : List ℕ) (z : ℤ) → Writes s w → lag_in s ≡ Some z → FewLag z × (w ≡ signed_decimal z)
-lag_to Start w z h e = absurd (none_some z e)
-lag_to Minus w z h e = absurd (none_some z e)
-lag_to Zero w z h e = let P : ℤ → Type 0 = λ q. FewLag q × (w ≡ signed_decimal q) in subst P (some_same (pos 0) z e) (omega arith, h)
-lag_to (Above m) w z h e = let P : ℤ → Type 0 = λ q. FewLag q × (w ≡ signed_decimal q) in subst P (some_same (pos m) z e) (h.0.1, h.1)
-lag_to (Below m) w z h e = let P : ℤ → Type 0 = λ q. FewLag q × (w ≡ signed_decimal q) in subst P (some_same (neg_ℤ (pos m)) z e) (minus_to m w h.0 h.1)
-lag_to Bad w z h e = absurd (none_some z e)
+lag_to Start w z h e = absurd (none-some z e)
+lag_to Minus w z h e = absurd (none-some z e)
+lag_to Zero w z h e = let P : ℤ → Type 0 = λ q. FewLag q × (w ≡ signed_decimal q) in subst P (same_Some (pos 0) z e) (omega arith, h)
+lag_to (Above m) w z h e = let P : ℤ → Type 0 = λ q. FewLag q × (w ≡ signed_decimal q) in subst P (same_Some (pos m) z e) (h.0.1, h.1)
+lag_to (Below m) w z h e = let P : ℤ → Type 0 = λ q. FewLag q × (w ≡ signed_decimal q) in subst P (same_Some (neg_ℤ (pos m)) z e) (minus_to m w h.0 h.1)
+lag_to Bad w z h e = absurd (none-some z e)
 
 -- what writes a lag is read as that lag
 lag_from : (z : ℤ) → FewLag z → lag_of (signed_decimal z) ≡ Some z

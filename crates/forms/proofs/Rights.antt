@@ -1,5 +1,6 @@
 -- Readers that read just what a relation spells, and how they are put together. Assumes nothing.
-use Rattle.std.proofs.Common.{◌≡◌, ℕ, ◌+◌, ◌<◌, Bool, true, false, cond, eqb, ltb, List, [], ◌∷◌, ◌++◌, length, get_or, drop, Some, None, Option, sym, refl, ap, ◌∙◌, subst, append_assoc, arith}
+use Rattle.std.proofs.Common.{◌≡◌, ℕ, ◌+◌, ◌<◌, eqb, ltb, List, [], ◌∷◌, ◌++◌, length, get_or, drop, Some, None, Option, sym, refl, ap, ◌∙◌, subst, append_assoc, arith}
+use Rattle.std.proofs.lemmas.Option.{none-some, same_Some, cond_some}
 use Rattle.std.proofs.lemmas.List.{drop_more, length-drop}
 use Rattle.std.proofs.lemmas.Bool.{and_parts, and_from, ltb-true, eqb-true, lt-ltb, eq-eqb, cond-true}
 use Rattle.forms.specs.Reading.{after, then}
@@ -14,27 +15,14 @@ pub record Right {Y : Type 0} (R : Y → List ℕ → Type 0) (p : List ℕ → 
 abbrev pub Spells : {Y : Type 0} → (Y → Type 0) → (Y → List ℕ) → Y → List ℕ → Type 0
 Spells ok sp y w = ok y × (w ≡ sp y)
 
--- nothing is not something
-pub none_some : {X : Type 0} (x : X) → None ≡ Some x → ⊥
-none_some x h = let z : ◌≡◌ {A = ℕ} 0 1 = cc in omega arith
-
--- something is one thing only
-pub some_same : {X : Type 0} (x y : X) → Some x ≡ Some y → x ≡ y
-some_same x y h = cc
-
--- a test that let something through was passed
-pub cond_some : {X : Type 0} (b : Bool) (x y : X) → cond b (Some x) None ≡ Some y → (b ≡ true) × (x ≡ y)
-cond_some true x y h = (refl, some_same x y h)
-cond_some false x y h = absurd (none_some y h)
-
 -- where a second reading came to something, so did the first
 pub then_some : {X Y : Type 0} (o : Option (X × ℕ)) (k : X → ℕ → Option (Y × ℕ)) (z : Y × ℕ) → then o k ≡ Some z → (x : X) × (e : ℕ) × (o ≡ Some (x, e)) × (k x e ≡ Some z)
-then_some None k z h = absurd (none_some z h)
+then_some None k z h = absurd (none-some z h)
 then_some (Some p) k z h = (p.0, p.1, refl, h)
 
 -- and so where it came after a byte
 pub after_some : {Y : Type 0} (o : Option ℕ) (k : ℕ → Option (Y × ℕ)) (z : Y × ℕ) → after o k ≡ Some z → (e : ℕ) × (o ≡ Some e) × (k e ≡ Some z)
-after_some None k z h = absurd (none_some z h)
+after_some None k z h = absurd (none-some z h)
 after_some (Some e) k z h = (e, refl, h)
 
 -- one reading after another
@@ -68,7 +56,7 @@ made_right f p first =
       sound = λ t at y e h.
           let (x, m, h₁, h₂) = then_some (p t at) (λ x e. Some (f x, e)) (y, e) h in
           let (u, ru, du) = first.sound t at x m h₁ in
-          let pair = some_same (f x, m) (y, e) h₂ in
+          let pair = same_Some (f x, m) (y, e) h₂ in
           (u, (x, ru, sym (ap (λ z. z.0) pair)), du ∙ ap (λ z. u ++ drop z.1 t) pair);
       complete = λ t at y w rest r d.
           let (x, ru, ey) = r in
@@ -80,7 +68,7 @@ made_right f p first =
 pub done_right : {Y : Type 0} (y : Y) → Right (λ z w. (z ≡ y) × (w ≡ [])) (λ t at. Some (y, at))
 done_right y =
     record {
-      sound = λ t at z e h. let pair = some_same (y, at) (z, e) h in ([], (sym (ap (λ q. q.0) pair), refl), ap (λ q. drop q.1 t) pair);
+      sound = λ t at z e h. let pair = same_Some (y, at) (z, e) h in ([], (sym (ap (λ q. q.0) pair), refl), ap (λ q. drop q.1 t) pair);
       complete = λ t at z w rest r d. (at, ap (λ q. Some (q, at)) (sym r.0), d ∙ ap (λ q. q ++ rest) r.1);
     }
 

@@ -1,6 +1,7 @@
 -- Words, as longest runs of the bytes that can stand in one. Assumes nothing.
 use Rattle.std.proofs.Common.{◌≡◌, ℕ, ◌+◌, ◌-◌, ◌%◌, ◌^◌, ◌<◌, Bool, true, false, cond, ◌&&◌, eqb, ltb, leb, List, [], ◌∷◌, ◌++◌, length, get_or, take, drop, Some, None, decimal, Option, sym, refl, ap, ◌∙◌, append_assoc, one-add, arith}
 use Rattle.std.specs.List.{prefix_len}
+use Rattle.std.proofs.lemmas.Option.{none-some, same_Some, cond_some}
 use Rattle.std.proofs.lemmas.Fmt.{decimal_by_steps}
 use Rattle.std.proofs.lemmas.List.{drop_more, drop-drop, length-drop, length-append, take-append-drop, take_at, drop_at}
 use Rattle.std.proofs.lemmas.Bool.{and_parts, and_from, ltb-true, eqb-true, lt-ltb, eq-eqb, ne_eqb, le-leb, cond-true, cond-false}
@@ -8,7 +9,7 @@ use Rattle.forms.specs.declared.mark.Mark.TheVariants.{Open, Close, Space, Minus
 use Rattle.forms.specs.Marks.{is_digit}
 use Rattle.forms.specs.Reading.{then, paired, word_as}
 use Rattle.forms.specs.Words.{in_word, of_word, word_end, stands, word_before}
-use Rattle.forms.proofs.Rights.{Right, Spells, none_some, some_same, cond_some, then_some}
+use Rattle.forms.proofs.Rights.{Right, Spells, then_some}
 
 -- each byte can stand in a word
 abbrev pub all_in : List ℕ → Bool
@@ -107,8 +108,8 @@ before w b = w ++ b ∷ []
 
 -- a pair that was made has both its parts
 paired_some : {X : Type 0} (o : Option X) (m : ℕ) (x : X) (e : ℕ) → paired o m ≡ Some (x, e) → (o ≡ Some x) × (m ≡ e)
-paired_some None m x e h = absurd (none_some (x, e) h)
-paired_some (Some y) m x e h = let pair = some_same (y, m) (x, e) h in (ap (λ q. Some q.0) pair, ap (λ q. q.1) pair)
+paired_some None m x e h = absurd (none-some (x, e) h)
+paired_some (Some y) m x e h = let pair = same_Some (y, m) (x, e) h in (ap (λ q. Some q.0) pair, ap (λ q. q.1) pair)
 
 -- a reader of words before a byte that can stand in none
 pub word_right : {X : Type 0} (ok : X → Type 0) (sp : X → List ℕ) (f : List ℕ → Option X) (b : ℕ) → Words ok sp f → in_word b ≡ false → Right (Spells ok (λ x. before (sp x) b)) (λ t at. word_as f t at b)

@@ -1,9 +1,11 @@
 -- What comes of a text, line by line. Assumes nothing.
-use Rattle.std.proofs.Common.{◌≡◌, ℕ, ◌+◌, List, [], ◌∷◌, ◌++◌, length, Some, None, Option, sym, refl, ap, ◌∙◌, subst, append_assoc, arith}
+use Rattle.std.proofs.Common.{◌≡◌, ℕ, ◌+◌, List, [], ◌∷◌, ◌++◌, length, Some, None, Ok, Err, Option, Result, sym, refl, ap, ◌∙◌, subst, append_assoc, arith}
+use Rattle.std.proofs.lemmas.Option.{none-some, same_Some}
 use Rattle.book.specs.declared.refusal.Refused as kinds
-use Rattle.book.specs.Refusals.{Told, refused_by}
-use Rattle.gezwaphimo.specs.declared.said.Said.TheVariants.{NoCall, Taken, Refused}
-use Rattle.gezwaphimo.specs.Hearing.{SaidBy, said_told}
+use Rattle.book.specs.Refusals.{Told, refused_by, number}
+use Rattle.gezwaphimo.specs.declared.said.Unsaid.{Unsaid}
+use Rattle.gezwaphimo.specs.declared.said.Unsaid.TheVariants.{NoCall, Refused}
+use Rattle.gezwaphimo.specs.Hearing.{SaidBy, said_told, unsaid_refusal}
 use Rattle.book.specs.Calls.{Call, refusal, hears}
 use Rattle.book.specs.Rules.{BookMeaning}
 use Rattle.sheet.specs.declared.span.Span.{Span}
@@ -12,12 +14,11 @@ use Rattle.forms.specs.declared.form.Item.{Item}
 use Rattle.forms.specs.declared.form.Point.{Point}
 use Rattle.forms.specs.Spelling.{spelled, Short}
 use Rattle.gezwaphimo.specs.Words.{call_of}
-use Rattle.forms.specs.declared.reader.Next.{Next}
-use Rattle.forms.specs.declared.reader.Next.TheVariants as next
-use Rattle.forms.specs.Texts.{Ends, Reads}
+use Rattle.forms.specs.declared.reader.NoForm.{NoForm}
+use Rattle.forms.specs.Texts.{Ends, Stands, Reads}
 use Rattle.book.specs.declared.refusal.Layer.TheVariants.{Text}
 use Rattle.sheet_forms.specs.Shown.{refused_text}
-use Rattle.gezwaphimo.specs.Texts.{spelled_all, Carried, Ending, no_form, Heard}
+use Rattle.gezwaphimo.specs.Texts.{spelled_all, Carried, Ending, no_form, no_call, refused, Heard}
 
 module _ {E : Type 0} (span_of : E → ℕ → Option Span) (entry_of : Item → Option E) (event_of : Point → Option ℕ) where
   -- nothing is carried out, and the text ends as it stands
@@ -45,38 +46,43 @@ module _ {E : Type 0} (span_of : E → ℕ → Option Span) (entry_of : Item →
         subst (λ k. Ending span_of entry_of event_of more.after k more.tail bytes) same more.ends;
   }
 
-no_form_not_end : next.NoForm ≡ next.End → ⊥
-no_form_not_end e = let z : ◌≡◌ {A = ℕ} 0 1 = cc in omega arith
+-- an error is not a value
+pub error_not_value : {A B : Type 0} (x : A) (e : B) → ◌≡◌ {A = Result A B} (Err e) (Ok x) → ⊥
+error_not_value x e is = let z : ◌≡◌ {A = ℕ} 0 1 = cc in omega arith
 
-no_form_not_form : (f : Form) → next.NoForm ≡ next.Form f → ⊥
-no_form_not_form f e = let z : ◌≡◌ {A = ℕ} 0 1 = cc in omega arith
+-- a result is a value or an error
+pub by_result : {A B P : Type 0} (r : Result A B) → ((x : A) → r ≡ Ok x → P) → ((e : B) → r ≡ Err e → P) → P
+by_result (Ok x) f g = f x refl
+by_result (Err e) f g = g e refl
 
 -- the reader finds no form there
-pub ends_no_form : {E : Type 0} (span_of : E → ℕ → Option Span) (entry_of : Item → Option E) (event_of : Point → Option ℕ) (m : BookMeaning E) (line : ℕ) (before after : List ℕ) (answer : Next)
-    → Ends before answer → Reads before after answer → answer ≡ next.NoForm → Ending span_of entry_of event_of m line before (refused_text line Text 13)
-ends_no_form span_of entry_of event_of m line before after answer ends reads is = no_form
-    (λ none. no_form_not_end (sym is ∙ ends.1 none))
-    (λ f rest short stands. no_form_not_form f (sym is ∙ ((reads f rest).1 (short, stands)).0))
+pub ends_no_form : {E : Type 0} (span_of : E → ℕ → Option Span) (entry_of : Item → Option E) (event_of : Point → Option ℕ) (m : BookMeaning E) (line : ℕ) (before after : List ℕ) (answer : Result (Option Form) NoForm) (why : NoForm)
+    → Ends before answer → Reads before after answer → answer ≡ Err why → Ending span_of entry_of event_of m line before (refused_text line Text 13)
+ends_no_form span_of entry_of event_of m line before after answer why ends reads is = no_form
+    (λ none. error_not_value None why (sym is ∙ ends.1 none))
+    (λ f rest short stands. error_not_value (Some f) why (sym is ∙ ((reads f rest).1 (short, stands)).0))
     refl
-
-some_not_none : {A : Type 0} (x : A) → ◌≡◌ {A = Option A} (Some x) None → ⊥
-some_not_none x e = let z : ◌≡◌ {A = ℕ} 0 1 = cc in omega arith
-
-some_some : {A : Type 0} (x y : A) → ◌≡◌ {A = Option A} (Some x) (Some y) → x ≡ y
-some_some x y e = cc
 
 module _ {E : Type 0} (m n : BookMeaning E) where
   -- a form that says no call
-  pub said_none : (o : Option (Call E)) → SaidBy o m n NoCall → o ≡ None
+  pub said_none : (o : Option (Call E)) → SaidBy o m n (Err NoCall) → o ≡ None
   said_none None s = refl
-  said_none (Some c) s = absurd (some_not_none (refusal m c) (sym s.0))
+  said_none (Some c) s = absurd (none-some (refusal m c) s.0)
 
   -- a call that is refused
-  pub said_err : (o : Option (Call E)) (k : kinds.Refused) → SaidBy o m n (Refused k) → (c : Call E) × (o ≡ Some c) × (refusal m c ≡ Some (refused_by k.layer k.place k.why))
-  said_err None k s = absurd (some_not_none {A = Option Told} (Some (refused_by k.layer k.place k.why)) (ap said_told s.0))
-  said_err (Some c) k s = (c, refl, sym (some_some (Some (refused_by k.layer k.place k.why)) (refusal m c) s.0))
+  pub said_err : (o : Option (Call E)) (k : kinds.Refused) → SaidBy o m n (Err (Refused k)) → (c : Call E) × (o ≡ Some c) × (refusal m c ≡ Some (refused_by k.layer k.place k.why))
+  said_err None k s = absurd (none-some {A = Option Told} (Some (refused_by k.layer k.place k.why)) (sym (ap said_told s.0)))
+  said_err (Some c) k s = (c, refl, sym (same_Some (Some (refused_by k.layer k.place k.why)) (refusal m c) s.0))
 
   -- a call that is carried out
-  pub said_ok : (o : Option (Call E)) → SaidBy o m n Taken → (c : Call E) × (o ≡ Some c) × (refusal m c ≡ None) × (n ≡ hears m c)
-  said_ok None s = absurd (some_not_none {A = Option Told} None (ap said_told s.0))
-  said_ok (Some c) s = (c, refl, sym (some_some None (refusal m c) s.0), s.1)
+  pub said_ok : (o : Option (Call E)) → SaidBy o m n (Ok tt) → (c : Call E) × (o ≡ Some c) × (refusal m c ≡ None) × (n ≡ hears m c)
+  said_ok None s = absurd (none-some {A = Option Told} None (sym (ap said_told s.0)))
+  said_ok (Some c) s = (c, refl, sym (same_Some None (refusal m c) s.0), s.1)
+
+-- a form that is not carried out
+pub ends_unsaid : {E : Type 0} (span_of : E → ℕ → Option Span) (entry_of : Item → Option E) (event_of : Point → Option ℕ) (m n : BookMeaning E) (line : ℕ) (f : Form) (before rest : List ℕ) (why : Unsaid)
+    → Stands f before rest → SaidBy (call_of entry_of event_of f) m n (Err why) → Ending span_of entry_of event_of m line before (refused_text (unsaid_refusal line why).line (unsaid_refusal line why).layer (number (unsaid_refusal line why).why))
+ends_unsaid span_of entry_of event_of m n line f before rest NoCall stands said = no_call f rest stands.0 stands.1 (said_none m n (call_of entry_of event_of f) said) refl
+ends_unsaid span_of entry_of event_of m n line f before rest (Refused k) stands said =
+    let told = said_err m n (call_of entry_of event_of f) k said in
+    refused f rest stands.0 stands.1 told.0 told.1 _ told.2 refl

@@ -1,7 +1,10 @@
 -- A text, heard form by form. Assumes nothing.
---     SaidBy ..       what comes of a form that says a call, or none
---     HeardAll ..     what comes of all that is left of a text
-use Rattle.std.specs.Prelude.{◌≡◌, ℕ, List, Some, None, Option}
+--     no_form_refusal line       no form stands at that text line
+--     unsaid_refusal line why    a form that is not carried out, as the answer to the text says it
+--     said_told answer           what is told of a form's call; nothing where it says none
+--     SaidBy ..                 what comes of a form that says a call, or none
+--     HeardAll ..               what comes of all that is left of a text
+use Rattle.std.specs.Prelude.{◌≡◌, ℕ, List, Some, None, Ok, Err, Option, Result}
 use Rattle.book.specs.declared.refusal.Layer.TheVariants.{Text}
 use Rattle.book.specs.declared.refusal.Refusal.TheVariants.{NoForm}
 use Rattle.book.specs.Calls.{Call, refusal, hears}
@@ -12,24 +15,27 @@ use Rattle.sheet_forms.specs.declared.form.TextRefusal.{TextRefusal}
 use Rattle.sheet_forms.specs.Shown.{refused_text}
 use Rattle.forms.specs.declared.form.Item.{Item}
 use Rattle.forms.specs.declared.form.Point.{Point}
-use Rattle.gezwaphimo.specs.declared.said.Said.{Said}
-use Rattle.gezwaphimo.specs.declared.said.Said.TheVariants.{NoCall, Taken, Refused}
+use Rattle.gezwaphimo.specs.declared.said.Unsaid.{Unsaid}
+use Rattle.gezwaphimo.specs.declared.said.Unsaid.TheVariants.{NoCall, Refused}
 use Rattle.gezwaphimo.specs.Texts.{Sheeted, Heard}
 
 abbrev pub no_form_refusal : ℕ → TextRefusal
 no_form_refusal line = record { line = line; layer = Text; why = NoForm }
 
--- what is told of a form's call; nothing where it says none
-abbrev pub said_told : Said → Option (Option Told)
-said_told NoCall = None
-said_told Taken = Some None
-said_told (Refused k) = Some (Some (refused_by k.layer k.place k.why))
+abbrev pub unsaid_refusal : ℕ → Unsaid → TextRefusal
+unsaid_refusal line NoCall = no_form_refusal line
+unsaid_refusal line (Refused k) = record { line = line; layer = k.layer; why = k.why }
 
-abbrev pub SaidBy : {E : Type 0} → Option (Call E) → BookMeaning E → BookMeaning E → Said → Type 0
-SaidBy None m n answer = (answer ≡ NoCall) × (n ≡ m)
+abbrev pub said_told : Result (Unit {0}) Unsaid → Option (Option Told)
+said_told (Ok u) = Some None
+said_told (Err NoCall) = None
+said_told (Err (Refused k)) = Some (Some (refused_by k.layer k.place k.why))
+
+abbrev pub SaidBy : {E : Type 0} → Option (Call E) → BookMeaning E → BookMeaning E → Result (Unit {0}) Unsaid → Type 0
+SaidBy None m n answer = (answer ≡ Err NoCall) × (n ≡ m)
 SaidBy (Some c) m n answer = (said_told answer ≡ Some (refusal m c)) × (n ≡ hears m c)
 
 module _ {E : Type 0} (span_of : E → ℕ → Option Span) (entry_of : Item → Option E) (event_of : Point → Option ℕ) where
-  abbrev pub HeardAll : BookMeaning E → BookMeaning E → List ℕ → Option TextRefusal → Type 0
-  HeardAll m n text None = (bytes : List ℕ) → Sheeted span_of entry_of event_of n bytes → Heard span_of entry_of event_of m 2 text bytes
-  HeardAll m n text (Some k) = Heard span_of entry_of event_of m 2 text (refused_text k.line k.layer (number k.why))
+  abbrev pub HeardAll : BookMeaning E → BookMeaning E → List ℕ → Result (Unit {0}) TextRefusal → Type 0
+  HeardAll m n text (Ok u) = (bytes : List ℕ) → Sheeted span_of entry_of event_of n bytes → Heard span_of entry_of event_of m 2 text bytes
+  HeardAll m n text (Err k) = Heard span_of entry_of event_of m 2 text (refused_text k.line k.layer (number k.why))

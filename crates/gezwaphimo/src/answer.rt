@@ -1,7 +1,7 @@
 //! From the bytes of a text to the bytes of its answer.
 
 ghost use Rattle.std.specs.Prelude.{◌≡◌, ◌≤◌, length};
-ghost use Rattle.gezwaphimo.specs.Kinds.{begins, kind_of};
+ghost use Rattle.gezwaphimo.specs.Kinds.{kind_of};
 ghost use Rattle.gezwaphimo.specs.Texts.{TextAnswered, Answered};
 
 use crate::finish::finish;
@@ -12,29 +12,19 @@ use arrow::ArrowBook;
 use book::refusal::{Layer, Refusal, Refused};
 use dates::layer::Dated;
 use forms::form::{Form, PlanKind};
-use forms::reader::{Next, Reader};
+use forms::reader::{NoForm, Reader};
 use sheet_forms::form::{SheetForm, TextRefusal};
 
 /// As many bytes as a text can have.
 const TEXT_BYTES: usize = 65_536;
 
-/// The kind of plan that a form begins.
-fn begun(form: Form) -> Option<PlanKind>
-    ensures { result ≡ begins form }
-{
-    match form {
-        Form::Plan(kind) => Some(kind),
-        _ => None,
-    }
-}
-
 /// The kind of plan that is begun by what the reader has found.
-fn kind_of(next: Next) -> Option<PlanKind>
+fn kind_of(next: Result<Option<Form>, NoForm>) -> Option<PlanKind>
     ensures { result ≡ kind_of next }
 {
     match next {
-        Next::Form(form) => begun(form),
-        Next::End | Next::NoForm => None,
+        Ok(Some(Form::Plan(kind))) => Some(kind),
+        _ => None,
     }
 }
 

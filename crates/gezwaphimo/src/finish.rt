@@ -30,8 +30,8 @@ where
     let mut book = start;
     let mut reader = rest;
     match heard_all(&mut book, &mut reader) {
-        Some(refusal) => poured(SheetForm::Refused(refusal), out),
-        None => {
+        Err(refusal) => poured(SheetForm::Refused(refusal), out),
+        Ok(()) => {
             let plan = OpenPlan::over(book).issue();
             sheet(&plan, out)
         }

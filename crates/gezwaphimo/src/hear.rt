@@ -2,13 +2,13 @@
 
 ghost use Rattle.std.specs.Prelude.{◌≡◌, ◌^◌, ◌<◌, length};
 ghost use Rattle.forms.specs.Texts.{left};
-ghost use Rattle.gezwaphimo.specs.Hearing.{HeardAll, no_form_refusal};
+ghost use Rattle.gezwaphimo.specs.Hearing.{HeardAll, no_form_refusal, unsaid_refusal};
 
-use crate::said::{Said, say_to};
+use crate::said::{Unsaid, say_to};
 use crate::words::Worded;
 use book::refusal::{Layer, Refusal};
 use book::traits::Book;
-use forms::reader::{Next, Reader};
+use forms::reader::Reader;
 use sheet::spanned::Spanned;
 use sheet_forms::form::TextRefusal;
 
@@ -23,30 +23,32 @@ pub(crate) fn no_form(line: usize) -> TextRefusal
     }
 }
 
+/// A form that is not carried out.
+fn unsaid_at(line: usize, unsaid: Unsaid) -> TextRefusal
+    ensures { result ≡ unsaid_refusal line unsaid }
+{
+    match unsaid {
+        Unsaid::NoCall => no_form(line),
+        Unsaid::Refused(refused) => TextRefusal {
+            line,
+            layer: refused.layer,
+            why: refused.why,
+        },
+    }
+}
+
 /// Says the forms of a text to a book, from the second line on, until the first refusal or the end.
 #[inline(never)]
-pub(crate) fn heard_all<B: Book>(book: &mut B, reader: &mut Reader) -> Option<TextRefusal>
+pub(crate) fn heard_all<B: Book>(book: &mut B, reader: &mut Reader) -> Result<(), TextRefusal>
 where
     B::Entry: Worded + Spanned,
     requires { length (left reader.old) < 2 ^ 63 }
     ensures { HeardAll B.Entry.Spanned.span_of B.Entry.Worded.entry_of B.Entry.Worded.event_of (B.Book.meaning book.old) (B.Book.meaning book.new) (left reader.old) result }
 {
     let mut line = 2;
-    loop {
-        match reader.next() {
-            Next::End => return None,
-            Next::NoForm => return Some(no_form(line)),
-            Next::Form(form) => match say_to(book, form) {
-                Said::NoCall => return Some(no_form(line)),
-                Said::Refused(refused) => {
-                    return Some(TextRefusal {
-                        line,
-                        layer: refused.layer,
-                        why: refused.why,
-                    });
-                }
-                Said::Taken => line += 1,
-            },
-        }
+    while let Some(form) = reader.next().map_err(|_| no_form(line))? {
+        say_to(book, form).map_err(|unsaid| unsaid_at(line, unsaid))?;
+        line += 1;
     }
+    Ok(())
 }

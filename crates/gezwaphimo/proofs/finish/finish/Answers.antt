@@ -4,18 +4,18 @@ use Rattle.plan.specs.Issues.{Right}
 use Rattle.sheet.specs.Sheets.{SheetOf, rendered}
 use Rattle.gezwaphimo.proofs.finish.finish.Goals as goal
 
-pub returns-in-Some : goal.returns-in-Some
-returns-in-Some g c = record { bytes = _; heard = c.in-Some.ensures; poured = c.poured.ensures }
+pub returns-in-Err : goal.returns-in-Err
+returns-in-Err g c = record { bytes = _; heard = c.in-Err.ensures; poured = c.poured.ensures }
 
-pub returns-in-None : goal.returns-in-None
-returns-in-None g c =
+pub returns-in-Ok : goal.returns-in-Ok
+returns-in-Ok g c =
     let plan = c.issue-plan.result in
     let over = ap g.B.Book.meaning c.over.ensures in
     let same = ap g.B.Book.meaning c.issue-plan.ensures.book ∙ over in
     let done = c.sheet.ensures in
     record {
       bytes = rendered done.forms;
-      heard = c.in-None.ensures (rendered done.forms) (record {
+      heard = c.in-Ok.ensures (rendered done.forms) (record {
         outcome = plan.outcome;
         right = subst (λ x. Right (network_of x) plan.outcome) over c.issue-plan.ensures.right;
         forms = done.forms;
