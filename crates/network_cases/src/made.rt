@@ -25,13 +25,13 @@ impl Network for Made {
     }
 
     fn places(&self) -> usize {
-        self.places.min(PLACES)
+        self.gaps.len().min(PLACES)
     }
 
     fn gap(&self, place: usize) -> Option<Gap> {
-        if 1 <= place && place <= self.places.min(PLACES) {
+        if (1..=self.places()).contains(&place) {
             let gap = self.gaps[place - 1];
-            if is_fit(self.events.min(1_023), gap) {
+            if is_fit(self.events(), gap) {
                 return Some(gap);
             }
         }
@@ -39,7 +39,7 @@ impl Network for Made {
     }
 
     fn owner(&self, place: usize) -> Owner {
-        if 1 <= place && place <= self.places.min(PLACES) {
+        if (1..=self.places()).contains(&place) {
             Owner {
                 layer: OwnerLayer::Book,
                 number: place,
