@@ -2,7 +2,7 @@
 
 ghost use Rattle.std.specs.Prelude.{◌≡◌};
 ghost use Rattle.network_cases.specs.Made.{fits, made_of};
-ghost use Rattle.std.proofs.Common.{rules, arith};
+ghost use Rattle.std.proofs.Common.{rules};
 
 use crate::gaps::{Made, PLACES};
 use network::gap::{Gap, Owner, OwnerLayer};
@@ -12,13 +12,13 @@ use network::network::Network;
 fn is_fit(events: usize, gap: Gap) -> bool
     ensures { result ≡ fits events gap }
 {
-    gap.left <= events && gap.reached <= events && -99_999 <= gap.days && gap.days <= 99_999
+    gap.left <= events && gap.reached <= events && gap.days.unsigned_abs() <= 99_999
 }
 
 impl Network for Made {
     ghost network = { made_of };
 
-    ghost lawful = { first_of (Prim.search rules, Prim.grind (arith, Self.row.coded.inj)) };
+    ghost lawful = { Prim.search rules };
 
     fn events(&self) -> usize {
         self.events.min(1_023)
