@@ -13,6 +13,7 @@ use network::network::Network;
 use std::{fmt, io};
 
 /// One call on a book.
+// Not play's PlanCall: that has calls of a plan, which a book alone does not hear.
 #[derive(Clone, Copy)]
 pub enum Call<E> {
     Enter(usize, E),

@@ -8,6 +8,7 @@ use network::gap::{Gap, Owner, OwnerLayer};
 use std::fmt;
 
 /// A value, to be printed in the words of a plan.
+// A struct of this crate, since a crate may not implement Display for the types of another.
 #[derive(Clone, Copy)]
 pub struct Words<T>(pub T);
 

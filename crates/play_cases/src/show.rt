@@ -10,6 +10,7 @@ use std::io::Write;
 use std::{fmt, io};
 
 /// An owner, in words.
+// A struct of this crate, since a crate may not implement Display for the types of another.
 #[derive(Clone, Copy)]
 struct OwnerWords(Owner);
 

@@ -18,6 +18,7 @@ fn main(rt: HostRuntime) -> io::Result<()> {
     let mut text = Vec::new(rt.alloc());
     rt.stdin().take(TEXT_ROOM).read_to_end(&mut text)?;
     let mut bytes = vec![in rt.alloc(); 0; ANSWER_ROOM]?;
+    // The answer is told to C: a count of bytes, or a negative number where they do not fit.
     let count = usize::try_from(answer(&text, &mut bytes)).unwrap_or(0);
     bytes.truncate(count);
     rt.stdout().write_all(&bytes)
