@@ -1,28 +1,33 @@
-//! Events, places and gaps, as a case gives them.
-
-ghost use Rattle.std.specs.Prelude.{◌≡◌, length};
+//! Events and gaps, as a case gives them.
 
 use network::gap::Gap;
+use std::alloc::{AllocError, Global};
 
 /// As many places as a network can have.
 pub const PLACES: usize = 4_096;
 
-/// So many events and places; a gap that a network could not have is passed over.
+/// So many events, and a place for each gap; a gap that a network could not have is passed over.
 #[derive(Drop)]
 pub struct Made {
     pub events: usize,
-    pub places: usize,
-    pub gaps: [Gap; 4096],
-    ghost filled: { length gaps ≡ 4096 },
+    pub gaps: Vec<Gap>,
 }
 
 impl Made {
-    /// One place more, with a gap in it, where there is room.
-    pub fn add(&mut self, gap: Gap) {
-        let next = self.places;
-        if next < 4_096 {
-            self.gaps[next] = gap;
-            self.places = next + 1;
-        }
+    /// So many events, with a gap for each event left, event reached and days.
+    pub fn of(
+        alloc: Global,
+        events: usize,
+        listed: &[(usize, usize, i64)],
+    ) -> Result<Made, AllocError> {
+        let gaps = listed.iter().map(|(left, reached, days)| Gap {
+            left: *left,
+            reached: *reached,
+            days: *days,
+        });
+        Ok(Made {
+            events,
+            gaps: gaps.collect(alloc)?,
+        })
     }
 }

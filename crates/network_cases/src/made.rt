@@ -2,7 +2,7 @@
 
 ghost use Rattle.std.specs.Prelude.{◌≡◌};
 ghost use Rattle.network_cases.specs.Made.{fits, made_of};
-ghost use Rattle.std.proofs.Common.{rules, arith};
+ghost use Rattle.std.proofs.Common.{rules};
 
 use crate::gaps::{Made, PLACES};
 use network::gap::{Gap, Owner};
@@ -12,26 +12,26 @@ use network::network::Network;
 fn is_fit(events: usize, gap: Gap) -> bool
     ensures { result ≡ fits events gap }
 {
-    gap.left <= events && gap.reached <= events && -99_999 <= gap.days && gap.days <= 99_999
+    gap.left <= events && gap.reached <= events && gap.days.unsigned_abs() <= 99_999
 }
 
 impl Network for Made {
     ghost network = { made_of };
 
-    ghost lawful = { first_of (Prim.search rules, Prim.grind (arith, Self.row.coded.inj)) };
+    ghost lawful = { Prim.search rules };
 
     fn events(&self) -> usize {
         self.events.min(1_023)
     }
 
     fn places(&self) -> usize {
-        self.places.min(PLACES)
+        self.gaps.len().min(PLACES)
     }
 
     fn gap(&self, place: usize) -> Option<Gap> {
-        if 1 <= place && place <= self.places.min(PLACES) {
+        if (1..=self.places()).contains(&place) {
             let gap = self.gaps[place - 1];
-            if is_fit(self.events.min(1_023), gap) {
+            if is_fit(self.events(), gap) {
                 return Some(gap);
             }
         }
@@ -39,7 +39,7 @@ impl Network for Made {
     }
 
     fn owner(&self, place: usize) -> Owner {
-        if 1 <= place && place <= self.places.min(PLACES) {
+        if (1..=self.places()).contains(&place) {
             Owner::Line(place)
         } else {
             Owner::Floor

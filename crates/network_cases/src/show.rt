@@ -1,43 +1,14 @@
 //! What the solver finds, in words.
 
 use crate::gaps::Made;
-use network::gap::Gap;
+use network::gap::{Gap, Step};
 use network::network::Network;
 use solver::ring::Ring;
 use solver::solve::solve;
 use solver::times::Times;
 use std::io;
 
-/// A place that holds nothing of note.
-const NO_GAP: Gap = Gap {
-    left: 0,
-    reached: 0,
-    days: 0,
-};
-
-/// A network of so many events and no places.
-fn blank(events: usize) -> Made {
-    Made {
-        events,
-        places: 0,
-        gaps: [NO_GAP; 4096],
-    }
-}
-
-/// A network of so many events, with the gaps in the first places.
-pub fn gaps_of(events: usize, listed: &[(usize, usize, i64)]) -> Made {
-    let mut made = blank(events);
-    for (left, reached, days) in listed {
-        let gap = Gap {
-            left: *left,
-            reached: *reached,
-            days: *days,
-        };
-        made.add(gap);
-    }
-    made
-}
-
+/// Prints the earliest and the latest time of an event.
 fn print_window(rt: &HostRuntime, times: &Times, event: usize) -> io::Result<()> {
     if let (Some(earliest), Some(latest)) = (times.earliest(event), times.latest(event)) {
         println!(rt; "  event {event}: {earliest} to {latest}")?;
@@ -45,28 +16,24 @@ fn print_window(rt: &HostRuntime, times: &Times, event: usize) -> io::Result<()>
     Ok(())
 }
 
+/// Prints a step of a ring.
 fn print_step(rt: &HostRuntime, ring: &Ring, n: usize) -> io::Result<()> {
-    if let Some(step) = ring.step(n) {
-        let (place, left, reached, days) = (
-            step.place,
-            step.gap.left,
-            step.gap.reached,
-            step.gap.days,
-        );
+    if let Some(Step { place, gap }) = ring.step(n) {
+        let Gap {
+            left,
+            reached,
+            days,
+        } = gap;
         println!(rt; "  place {place}: from event {left} to event {reached}, {days} days")?;
     }
     Ok(())
 }
 
-/// The days of the first so many steps, added up.
+/// The days of the steps, added up.
 fn days_of(ring: &Ring) -> i64 {
-    let mut sum: i64 = 0;
-    for n in 1..=ring.steps() {
-        if let Some(step) = ring.step(n) {
-            sum = sum.saturating_add(step.gap.days);
-        }
-    }
-    sum
+    (1..=ring.steps())
+        .filter_map(|n| ring.step(n))
+        .fold(0, |sum, step| sum.saturating_add(step.gap.days))
 }
 
 /// Solves a network and prints the length and every window, or the ring.

@@ -1,6 +1,7 @@
 //! Networks of a few events: no gap, no event but the beginning, gaps into the beginning and from an event to itself.
 
-use crate::show::{gaps_of, print_all};
+use crate::gaps::Made;
+use crate::show::print_all;
 use std::io;
 
 /// Solves a network and prints every window, or the ring.
@@ -11,7 +12,7 @@ fn case(
     gaps: &[(usize, usize, i64)],
 ) -> io::Result<()> {
     println!(rt; "{what}")?;
-    print_all(rt, &gaps_of(events, gaps))
+    print_all(rt, &Made::of(rt.alloc(), events, gaps)?)
 }
 
 /// Few gaps or none, and gaps from an event to itself.

@@ -7,6 +7,7 @@ use book::date::{Bound, Date};
 use dates::layer::Dated;
 use std::io;
 
+/// An activity of so many days, without a break.
 fn whole(days: u32) -> Entry {
     Entry::Activity(Activity {
         work: Work::Days(days),
@@ -14,6 +15,7 @@ fn whole(days: u32) -> Entry {
     })
 }
 
+/// An activity of so many hours, which may pause.
 fn broken_hours(hours: u32) -> Entry {
     Entry::Activity(Activity {
         work: Work::Hours(hours),
@@ -21,6 +23,7 @@ fn broken_hours(hours: u32) -> Entry {
     })
 }
 
+/// A relation between two activities.
 fn relation(kind: Kind, bound: Bound, first: usize, second: usize, lag: i32) -> Entry {
     Entry::Relation(Relation {
         kind,
@@ -31,7 +34,8 @@ fn relation(kind: Kind, bound: Bound, first: usize, second: usize, lag: i32) -> 
     })
 }
 
-fn date(event: usize, bound: Bound, day: u32) -> Date {
+/// A day for an event.
+pub fn date(event: usize, bound: Bound, day: u32) -> Date {
     Date { event, bound, day }
 }
 

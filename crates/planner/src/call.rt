@@ -13,6 +13,7 @@ use network::network::Network;
 use std::{fmt, io};
 
 /// One call on a book.
+// Not play's PlanCall: that has calls of a plan, which a book alone does not hear.
 #[derive(Clone, Copy)]
 pub enum Call<E> {
     Enter(usize, E),
@@ -42,19 +43,10 @@ where
 {
     fn fmt<W: fmt::Write>(&self, f: &mut fmt::Formatter<W>) -> fmt::Result {
         match *self {
-            Call::Enter(p, e) => {
-                let entry = Words(e);
-                write!(f, "enter {p} {entry}")
-            }
-            Call::Alter(p, e) => {
-                let entry = Words(e);
-                write!(f, "alter {p} {entry}")
-            }
+            Call::Enter(p, e) => write!(f, "enter {p} {}", Words(e)),
+            Call::Alter(p, e) => write!(f, "alter {p} {}", Words(e)),
             Call::Strike(p) => write!(f, "strike {p}"),
-            Call::Date(q, d) => {
-                let date = Words(d);
-                write!(f, "date {q} {date}")
-            }
+            Call::Date(q, d) => write!(f, "date {q} {}", Words(d)),
             Call::Clear(q) => write!(f, "clear {q}"),
         }
     }

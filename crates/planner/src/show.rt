@@ -8,6 +8,7 @@ use network::gap::{Gap, Owner};
 use std::fmt;
 
 /// A value, to be printed in the words of a plan.
+// A struct of this crate, since a crate may not implement Display for the types of another.
 #[derive(Clone, Copy)]
 pub struct Words<T>(pub T);
 
@@ -52,11 +53,14 @@ impl fmt::Display for Words<Activity> {
 
 impl fmt::Display for Words<Relation> {
     fn fmt<W: fmt::Write>(&self, f: &mut fmt::Formatter<W>) -> fmt::Result {
-        let kind = Words(self.0.kind);
-        let bound = Words(self.0.bound);
-        let first = self.0.first;
-        let second = self.0.second;
-        let lag = self.0.lag;
+        let Relation {
+            kind,
+            bound,
+            first,
+            second,
+            lag,
+        } = self.0;
+        let (kind, bound) = (Words(kind), Words(bound));
         write!(f, "(relation {kind} {bound} {first} {second} {lag})")
     }
 }
@@ -64,32 +68,23 @@ impl fmt::Display for Words<Relation> {
 impl fmt::Display for Words<Entry> {
     fn fmt<W: fmt::Write>(&self, f: &mut fmt::Formatter<W>) -> fmt::Result {
         match self.0 {
-            Entry::Activity(a) => {
-                let words = Words(a);
-                write!(f, "{words}")
-            }
-            Entry::Relation(r) => {
-                let words = Words(r);
-                write!(f, "{words}")
-            }
+            Entry::Activity(activity) => Words(activity).fmt(f),
+            Entry::Relation(relation) => Words(relation).fmt(f),
         }
     }
 }
 
 impl fmt::Display for Words<Arrow> {
     fn fmt<W: fmt::Write>(&self, f: &mut fmt::Formatter<W>) -> fmt::Result {
-        let from = self.0.from;
-        let to = self.0.to;
-        let days = self.0.days;
+        let Arrow { from, to, days } = self.0;
         write!(f, "(arrow {from} {to} {days})")
     }
 }
 
 impl fmt::Display for Words<Date> {
     fn fmt<W: fmt::Write>(&self, f: &mut fmt::Formatter<W>) -> fmt::Result {
-        let event = self.0.event;
-        let bound = Words(self.0.bound);
-        let day = self.0.day;
+        let Date { event, bound, day } = self.0;
+        let bound = Words(bound);
         write!(f, "(event {event} {bound} {day})")
     }
 }
@@ -109,10 +104,8 @@ impl fmt::Display for Words<Result<(), Refused>> {
     fn fmt<W: fmt::Write>(&self, f: &mut fmt::Formatter<W>) -> fmt::Result {
         match self.0 {
             Ok(()) => write!(f, "done"),
-            Err(refused) => {
-                let number = refused.why.number();
-                let layer = Words(refused.layer);
-                let place = refused.place;
+            Err(Refused { why, layer, place }) => {
+                let (number, layer) = (why.number(), Words(layer));
                 write!(f, "refused {number} by the {layer} at {place}")
             }
         }
@@ -131,9 +124,11 @@ impl fmt::Display for Words<Owner> {
 
 impl fmt::Display for Words<Gap> {
     fn fmt<W: fmt::Write>(&self, f: &mut fmt::Formatter<W>) -> fmt::Result {
-        let left = self.0.left;
-        let reached = self.0.reached;
-        let days = self.0.days;
+        let Gap {
+            left,
+            reached,
+            days,
+        } = self.0;
         write!(f, "event {reached} at least event {left} plus {days}")
     }
 }

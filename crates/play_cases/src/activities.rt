@@ -3,7 +3,7 @@
 use crate::show::print_plan;
 use activity::ActivityBook;
 use activity::entry::{Activity, Entry, Kind, Relation, Running, Work};
-use book::date::Bound;
+use book::date::{Bound, Date};
 use book::traits::Book;
 use play::call::PlanCall;
 use play::play::play;
@@ -26,6 +26,11 @@ pub fn relation(kind: Kind, bound: Bound, first: usize, second: usize, lag: i32)
         second,
         lag,
     })
+}
+
+/// A day for an event.
+pub fn date(event: usize, bound: Bound, day: u32) -> Date {
+    Date { event, bound, day }
 }
 
 /// Activities of 3, 4, 5, 2 and 6 days, and seven relations between them. The plan is read in between, which issues

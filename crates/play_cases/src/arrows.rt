@@ -7,6 +7,7 @@ use play::call::PlanCall;
 use play::play::play;
 use std::io;
 
+/// The entering of an arrow on a line.
 fn enter(line: usize, from: usize, to: usize, days: u32) -> PlanCall<Arrow> {
     PlanCall::Enter(line, Arrow { from, to, days })
 }

@@ -1,19 +1,15 @@
 //! One list with a call of every kind, carried out and refused, in either state of the plan.
 
-use crate::activities::{activity, relation};
+use crate::activities::{activity, date, relation};
 use crate::show::print_plan;
 use activity::ActivityBook;
 use activity::entry::{Entry, Kind, Running};
-use book::date::{Bound, Date};
+use book::date::Bound;
 use dates::layer::Dated;
 use play::call::PlanCall;
 use play::play::play;
 use sheet::sheet::sheet;
 use std::io;
-
-fn date(event: usize, bound: Bound, day: u32) -> Date {
-    Date { event, bound, day }
-}
 
 /// Every kind of call. Refused are the second entering of line 1, the strikes of lines 9 and 1, the date of an event that
 /// is not there, the second clearing, a time of an event that is not there, and a step of a ring where there is none.

@@ -1,10 +1,10 @@
 //! Plans that no schedule meets, by their lags and by their dates.
 
-use crate::activities::{activity, relation};
+use crate::activities::{activity, date, relation};
 use crate::show::print_plan;
 use activity::ActivityBook;
 use activity::entry::{Entry, Kind, Running};
-use book::date::{Bound, Date};
+use book::date::Bound;
 use book::traits::Book;
 use dates::layer::Dated;
 use play::call::PlanCall;
@@ -26,14 +26,7 @@ fn lagged() -> [PlanCall<Entry>; 5] {
 fn dated() -> [PlanCall<Entry>; 2] {
     [
         PlanCall::Enter(1, activity(3, Running::Whole)),
-        PlanCall::Date(
-            1,
-            Date {
-                event: 2,
-                bound: Bound::Most,
-                day: 2,
-            },
-        ),
+        PlanCall::Date(1, date(2, Bound::Most, 2)),
     ]
 }
 

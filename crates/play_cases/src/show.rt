@@ -9,10 +9,8 @@ use sheet::spanned::Spanned;
 use std::io::Write;
 use std::{fmt, io};
 
-/// As many steps as a ring can have.
-const RING_STEPS: usize = 1_024;
-
 /// An owner, in words.
+// A struct of this crate, since a crate may not implement Display for the types of another.
 #[derive(Clone, Copy)]
 struct OwnerWords(Owner);
 
@@ -28,14 +26,9 @@ impl fmt::Display for OwnerWords {
 
 /// Whether some gap leaves the event or reaches it.
 fn is_tied<N: Network>(network: &N, event: usize) -> bool {
-    for place in 1..=network.places() {
-        if let Some(gap) = network.gap(place) {
-            if gap.left == event || gap.reached == event {
-                return true;
-            }
-        }
-    }
-    false
+    (1..=network.places())
+        .filter_map(|place| network.gap(place))
+        .any(|gap| gap.left == event || gap.reached == event)
 }
 
 /// Prints a step of a ring, with its owner.
@@ -72,7 +65,7 @@ where
             }
         }
     }
-    for n in 1..=RING_STEPS {
+    for n in 1..=plan.ring_steps() {
         if let Ok(step) = plan.ring_step(n) {
             print_step(rt, book, step)?;
         }

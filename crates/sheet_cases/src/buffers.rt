@@ -1,6 +1,6 @@
 //! A sheet into buffers of every length from none to one more than it has.
 
-use book::refusal::{Layer, Refusal};
+use book::refusal::{Layer, Refusal, Refused};
 use book::traits::Book;
 use plan::issued::IssuedPlan;
 use sheet::sheet::sheet;
@@ -14,14 +14,16 @@ const FILL: u8 = 7;
 /// How many bytes a buffer has here.
 const ROOM: usize = 4096;
 
+/// What comes of a buffer that the sheet does not fit.
+const TOO_SHORT: Refused = Refused {
+    why: Refusal::BufferTooShort,
+    layer: Layer::Plan,
+    place: 0,
+};
+
 /// Whether each byte is as it was.
 fn is_untouched(bytes: &[u8]) -> bool {
-    for byte in bytes {
-        if *byte != FILL {
-            return false;
-        }
-    }
-    true
+    bytes.iter().all(|byte| *byte == FILL)
 }
 
 /// Whether a buffer of so many bytes is answered rightly, where the sheet is known.
@@ -32,22 +34,13 @@ where
     let mut buffer = [FILL; ROOM];
     let (front, back) = buffer.split_at_mut(length.min(ROOM));
     let answer = sheet(plan, front);
-    let kept = match answer {
-        Ok(count) => {
-            length >= known.len()
-                && count == known.len()
-                && front.get(..count) == Some(known)
-                && is_untouched(front.get(count..).unwrap_or(&[]))
-        }
-        Err(refused) => {
-            length < known.len()
-                && refused.why == Refusal::BufferTooShort
-                && refused.layer == Layer::Plan
-                && refused.place == 0
-                && is_untouched(front)
-        }
+    let is_answered = if length < known.len() {
+        answer == Err(TOO_SHORT) && is_untouched(front)
+    } else {
+        let rest = front.strip_prefix(known);
+        answer == Ok(known.len()) && rest.is_some_and(|bytes| is_untouched(bytes))
     };
-    kept && is_untouched(back)
+    is_answered && is_untouched(back)
 }
 
 /// Prints a sheet, and for how many lengths of the buffer it is answered rightly, of how many.
@@ -59,12 +52,9 @@ where
     let count = sheet(plan, &mut bytes).unwrap_or(0);
     let known = bytes.get(..count).unwrap_or(&[]);
     rt.stdout().write_all(known)?;
-    let mut right: usize = 0;
-    for length in 0..known.len() + 2 {
-        if is_right(plan, known, length) {
-            right = right.saturating_add(1);
-        }
-    }
     let lengths = known.len() + 2;
+    let right = (0..lengths)
+        .filter(|length| is_right(plan, known, *length))
+        .count();
     println!(rt; "{count} bytes, {right} of {lengths} buffers")
 }

@@ -5,6 +5,7 @@
 use std::io;
 
 mod buffers;
+mod entries;
 mod plans;
 mod rings;
 

@@ -1,40 +1,23 @@
 //! Sound plans: lines 1 and 400, lines of relations in between, the largest numbers, arrows.
 
 use crate::buffers::print_sheet;
+use crate::entries::{activity, arrow, date, follows};
 use activity::ActivityBook;
-use activity::entry::{Activity, Entry, Kind, Relation, Running, Work};
+use activity::entry::Running;
 use arrow::ArrowBook;
-use arrow::entry::Arrow;
-use book::date::{Bound, Date};
+use book::date::Bound;
 use book::traits::Book;
 use dates::layer::Dated;
 use plan::open::OpenPlan;
 use std::io;
 
-fn work(days: u32, running: Running) -> Entry {
-    Entry::Activity(Activity {
-        work: Work::Days(days),
-        running,
-    })
-}
-
-fn follows(first: usize, second: usize, lag: i32) -> Entry {
-    Entry::Relation(Relation {
-        kind: Kind::FS,
-        bound: Bound::Least,
-        first,
-        second,
-        lag,
-    })
-}
-
 /// Activities on the first line and the last, with relations beside them.
 fn ends_of_the_book() -> ActivityBook {
     let mut book = ActivityBook::new();
-    let _ = book.enter(1, work(3, Running::Whole));
-    let _ = book.enter(400, work(4, Running::Broken));
+    let _ = book.enter(1, activity(3, Running::Whole));
+    let _ = book.enter(400, activity(4, Running::Broken));
     let _ = book.enter(2, follows(1, 400, 2));
-    let _ = book.enter(399, work(1, Running::Whole));
+    let _ = book.enter(399, activity(1, Running::Whole));
     let _ = book.enter(398, follows(399, 400, 0));
     book
 }
@@ -42,41 +25,20 @@ fn ends_of_the_book() -> ActivityBook {
 /// The latest day of all, and the longest activity after it.
 fn largest() -> Dated<ActivityBook> {
     let mut book = Dated::over(ActivityBook::new());
-    let _ = book.enter(1, work(9_999, Running::Whole));
-    let _ = book.enter(2, work(0, Running::Broken));
-    let _ = book.date(
-        64,
-        Date {
-            event: 1,
-            bound: Bound::Least,
-            day: 99_999,
-        },
-    );
+    let _ = book.enter(1, activity(9_999, Running::Whole));
+    let _ = book.enter(2, activity(0, Running::Broken));
+    let _ = book.date(64, date(1, Bound::Least, 99_999));
     book
 }
 
 /// Two ways from one node to another, and a date on the last.
 fn arrows() -> Dated<ArrowBook> {
     let mut book = Dated::over(ArrowBook::new());
-    let lines = [(1, 2, 5), (1, 3, 1), (2, 4, 0), (3, 4, 2)];
-    for (before, (from, to, days)) in lines.iter().enumerate() {
-        let _ = book.enter(
-            before * 100 + 1,
-            Arrow {
-                from: *from,
-                to: *to,
-                days: *days,
-            },
-        );
-    }
-    let _ = book.date(
-        1,
-        Date {
-            event: 4,
-            bound: Bound::Least,
-            day: 8,
-        },
-    );
+    let _ = book.enter(1, arrow(1, 2, 5));
+    let _ = book.enter(101, arrow(1, 3, 1));
+    let _ = book.enter(201, arrow(2, 4, 0));
+    let _ = book.enter(301, arrow(3, 4, 2));
+    let _ = book.date(1, date(4, Bound::Least, 8));
     book
 }
 

@@ -1,28 +1,19 @@
 //! Plans that no schedule meets: a ring through the book, a date and the floor, and one of two dates on one event.
 
 use crate::buffers::print_sheet;
+use crate::entries::{activity, date};
 use activity::ActivityBook;
-use activity::entry::{Activity, Entry, Running, Work};
+use activity::entry::Running;
 use book::date::{Bound, Date};
 use book::traits::Book;
 use dates::layer::Dated;
 use plan::open::OpenPlan;
 use std::io;
 
-fn date(event: usize, bound: Bound, day: u32) -> Date {
-    Date { event, bound, day }
-}
-
 /// One whole activity of 3 days under two date layers.
 fn dated(dates: &[(usize, Date)]) -> Dated<Dated<ActivityBook>> {
     let mut book = Dated::over(Dated::over(ActivityBook::new()));
-    let _ = book.enter(
-        1,
-        Entry::Activity(Activity {
-            work: Work::Days(3),
-            running: Running::Whole,
-        }),
-    );
+    let _ = book.enter(1, activity(3, Running::Whole));
     for (place, date) in dates {
         let _ = book.date(*place, *date);
     }

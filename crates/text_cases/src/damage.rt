@@ -1,14 +1,16 @@
 //! Every damage of one byte of a good text.
 
-use gezwaphimo::answer::answer;
+ghost use Rattle.std.specs.Prelude.{◌<◌};
+
+use crate::told::told;
 use std::io;
 
 /// A good text of a few lines.
-const GOOD: &[u8] =
-    b"(plan activity)\n(enter 1 (activity 5 whole))\n(enter 2 (hours 20 broken))\n(enter 9 (relation FS most 1 2 -4))\n(date 2 (start 1 least 10))\n";
+const GOOD: [u8; 137] =
+    *b"(plan activity)\n(enter 1 (activity 5 whole))\n(enter 2 (hours 20 broken))\n(enter 9 (relation FS most 1 2 -4))\n(date 2 (start 1 least 10))\n";
 
 /// What comes of a damaged text.
-#[derive(Clone, Copy)]
+#[derive(Clone, Copy, PartialEq, Eq)]
 enum Outcome {
     /// It is still a text that makes a plan.
     Taken,
@@ -18,75 +20,48 @@ enum Outcome {
     Refused,
 }
 
-/// How often each has come.
-#[derive(Clone, Copy)]
-struct Tally {
-    taken: usize,
-    no_form: usize,
-    refused: usize,
-}
-
-impl Tally {
-    fn add(&mut self, outcome: Outcome) {
-        match outcome {
-            Outcome::Taken => self.taken = self.taken.saturating_add(1),
-            Outcome::NoForm => self.no_form = self.no_form.saturating_add(1),
-            Outcome::Refused => self.refused = self.refused.saturating_add(1),
-        }
-    }
-}
-
 /// The text line that a byte of the good text stands on.
-fn line_of(place: usize) -> usize {
-    let mut line: usize = 1;
-    for byte in GOOD.get(..place).unwrap_or(&[]) {
-        if *byte == b'\n' {
-            line = line.saturating_add(1);
-        }
-    }
-    line
+fn line_of(place: usize) -> usize
+    requires { place < 137 }
+{
+    let before = GOOD.iter().take(place);
+    before.filter(|byte| **byte == b'\n').count() + 1
 }
 
-/// What comes of a text. A text that the reader refuses is refused at the line that was damaged, or at the next one where
-/// the damaged byte ended its line.
-fn come_of(text: &[u8], line: usize) -> Option<Outcome> {
+/// What comes of a text: taken, refused by a call, or refused by the reader as is told of the line that was damaged.
+fn come_of(text: &[u8], no_form: &[u8]) -> Option<Outcome> {
     let mut bytes = [0; 1024];
-    let count = usize::try_from(answer(text, &mut bytes)).unwrap_or(0);
-    let told = bytes.get(..count).unwrap_or(&[]);
+    let told = told(text, &mut bytes);
     if told.starts_with(b"(length ") || told.starts_with(b"(contradiction ") {
-        return Some(Outcome::Taken);
+        Some(Outcome::Taken)
+    } else if told == no_form {
+        Some(Outcome::NoForm)
+    } else if told.starts_with(b"(refused ") && !told.ends_with(b" text 13)\n") {
+        Some(Outcome::Refused)
+    } else {
+        None
     }
-    let digit = told.get(9).copied().unwrap_or(0);
-    if usize::from(digit) == line.saturating_add(48) && told.ends_with(b" text 13)\n") {
-        return Some(Outcome::NoForm);
-    }
-    if told.starts_with(b"(refused ") && !told.ends_with(b" text 13)\n") {
-        return Some(Outcome::Refused);
-    }
-    None
-}
-
-/// The byte of the good text at a place.
-fn good(place: usize) -> u8 {
-    GOOD.get(place).copied().unwrap_or(0)
 }
 
 /// The good text with one byte changed.
-fn damaged(place: usize, value: u8) -> [u8; 137] {
-    let mut text = [0; 137];
-    for at in 0..137 {
-        text[at] = if at == place { value } else { good(at) };
-    }
+fn damaged(place: usize, value: u8) -> [u8; 137]
+    requires { place < 137 }
+{
+    let mut text = GOOD;
+    text[place] = value;
     text
 }
 
-/// Damages a byte to each other value.
-fn damage_at(rt: &HostRuntime, tally: &mut Tally, place: usize) -> io::Result<()> {
-    for code in 0..256u16 {
-        let value = u8::try_from(code).unwrap_or(0);
-        if value != good(place) {
-            match come_of(&damaged(place, value), line_of(place)) {
-                Some(come) => tally.add(come),
+/// Damages a byte to each other value, and says what comes of each.
+fn damage_at(rt: &HostRuntime, outcomes: &mut Vec<Outcome>, place: usize) -> io::Result<()>
+    requires { place < 137 }
+{
+    let line = line_of(place);
+    let no_form = format!(in rt.alloc(); "(refused {line} text 13)\n")?;
+    for value in 0..=u8::MAX {
+        if value != GOOD[place] {
+            match come_of(&damaged(place, value), no_form.as_bytes()) {
+                Some(come) => outcomes.push(come)?,
                 None => println!(rt; "byte {place} as {value} is answered otherwise")?,
             }
         }
@@ -94,16 +69,19 @@ fn damage_at(rt: &HostRuntime, tally: &mut Tally, place: usize) -> io::Result<()
     Ok(())
 }
 
+/// How often an outcome has come.
+fn count(outcomes: &[Outcome], outcome: Outcome) -> usize {
+    outcomes.iter().filter(|come| **come == outcome).count()
+}
+
 /// Damages each byte.
 pub fn run(rt: &HostRuntime) -> io::Result<()> {
-    let mut tally = Tally {
-        taken: 0,
-        no_form: 0,
-        refused: 0,
-    };
+    let mut outcomes = Vec::new(rt.alloc());
     for place in 0..137 {
-        damage_at(rt, &mut tally, place)?;
+        damage_at(rt, &mut outcomes, place)?;
     }
-    let (taken, no_form, refused) = (tally.taken, tally.no_form, tally.refused);
+    let no_form = count(&outcomes, Outcome::NoForm);
+    let refused = count(&outcomes, Outcome::Refused);
+    let taken = count(&outcomes, Outcome::Taken);
     println!(rt; "damaged: {no_form} refused by the reader, {refused} by a call, {taken} taken")
 }

@@ -9,6 +9,7 @@ use std::io::Read;
 mod damage;
 mod long;
 mod stored;
+mod told;
 
 fn main(rt: HostRuntime) -> io::Result<()> {
     let mut table = Vec::new(rt.alloc());

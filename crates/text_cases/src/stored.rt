@@ -1,50 +1,12 @@
 //! A table of cases. A line `# what` begins one; lines `> ..` are its text, each with its byte 10, and `>.. ` one without;
 //! lines `< ..` are the answer; `=` runs it.
 
-use gezwaphimo::answer::answer;
+use crate::told::told;
+use std::alloc::{AllocError, Global};
 use std::io;
 
 /// How many bytes an answer of the table has at most.
 const ROOM: usize = 4_096;
-
-/// What a line of the table is for.
-#[derive(Clone, Copy)]
-enum Part {
-    Name,
-    Text,
-    LastText,
-    Answer,
-    Run,
-}
-
-fn part_of(line: &[u8]) -> Part {
-    match (line.get(0), line.get(1)) {
-        (Some(b'#'), _) => Part::Name,
-        (Some(b'>'), Some(b' ')) => Part::Text,
-        (Some(b'>'), _) => Part::LastText,
-        (Some(b'<'), _) => Part::Answer,
-        _ => Part::Run,
-    }
-}
-
-/// The end of the line that begins at a place.
-fn line_end(table: &[u8], from: usize) -> usize {
-    let mut end = from;
-    for _ in 0..table.len() {
-        if end >= table.len() || table[end] == b'\n' {
-            break;
-        }
-        end += 1;
-    }
-    end
-}
-
-/// Whether a text is answered with those bytes.
-fn is_right(text: &[u8], expected: &[u8]) -> bool {
-    let mut bytes = [0; ROOM];
-    let count = usize::try_from(answer(text, &mut bytes)).unwrap_or(0);
-    bytes.get(..count) == Some(expected)
-}
 
 /// A case as it is put together.
 #[derive(Drop)]
@@ -54,53 +16,60 @@ struct Case {
 }
 
 impl Case {
-    fn take(&mut self, line: &[u8]) -> io::Result<()> {
-        let rest = line.get(2..).unwrap_or(&[]);
-        match part_of(line) {
-            Part::Name => {
+    /// Takes what a line of the table says of the case.
+    fn take(&mut self, line: &[u8]) -> Result<(), AllocError> {
+        match line {
+            [b'#', ..] => {
                 self.text.clear();
                 self.expected.clear();
             }
-            Part::Text => {
+            [b'>', b' ', rest @ ..] => {
                 self.text.extend_from_slice(rest)?;
                 self.text.push(b'\n')?;
             }
-            Part::LastText => self.text.extend_from_slice(rest)?,
-            Part::Answer => {
+            [b'>', _, rest @ ..] => self.text.extend_from_slice(rest)?,
+            [b'<', _, rest @ ..] => {
                 self.expected.extend_from_slice(rest)?;
                 self.expected.push(b'\n')?;
             }
-            Part::Run => {}
+            _ => {}
         }
         Ok(())
     }
+
+    /// Whether the text is answered as the table has it.
+    fn is_right(&self) -> bool {
+        told(&self.text, &mut [0; ROOM]) == self.expected.as_slice()
+    }
+}
+
+/// Of each case of the table, whether it is answered as the table has it.
+fn answered(alloc: Global, table: &[u8]) -> Result<Vec<bool>, AllocError> {
+    let mut case = Case {
+        text: Vec::new(alloc),
+        expected: Vec::new(alloc),
+    };
+    let mut cases = Vec::new(alloc);
+    for line in table.split(|byte| *byte == b'\n') {
+        case.take(line)?;
+        if line == b"=".as_slice() {
+            cases.push(case.is_right())?;
+        }
+    }
+    Ok(cases)
 }
 
 /// Runs the cases of the table, and says how many there are and which are answered otherwise.
 pub fn run(rt: &HostRuntime, table: &[u8]) -> io::Result<()> {
-    let mut case = Case {
-        text: Vec::new(rt.alloc()),
-        expected: Vec::new(rt.alloc()),
-    };
-    let mut from = 0;
-    let mut cases: usize = 0;
-    let mut right: usize = 0;
-    for _ in 0..table.len() {
-        if from >= table.len() {
-            break;
+    let cases = answered(rt.alloc(), table)?;
+    for (before, is_right) in cases.iter().enumerate() {
+        if !*is_right {
+            println!(rt; "case {} is answered otherwise", before + 1)?;
         }
-        let end = line_end(table, from);
-        let line = table.get(from..end).unwrap_or(&[]);
-        case.take(line)?;
-        if line == b"=".as_slice() {
-            cases = cases.saturating_add(1);
-            if is_right(&case.text, &case.expected) {
-                right = right.saturating_add(1);
-            } else {
-                println!(rt; "case {cases} is answered otherwise")?;
-            }
-        }
-        from = end.saturating_add(1);
     }
-    println!(rt; "{right} of {cases} texts are answered as the table has it")
+    let right = cases.iter().filter(|is_right| **is_right).count();
+    println!(rt;
+        "{right} of {} texts are answered as the table has it",
+        cases.len()
+    )
 }
