@@ -1,8 +1,8 @@
 -- One form of a walk through a sheet after another. Assumes nothing.
 --     Ready ..       the place is one that a walk through the sheet comes to
---     Strode ..      the form and the forms that are left after it are those that were left before
+--     Strode ..      a form and those that are left after it are those that were left before
 --     head_of ..     the first form, and after_head the place after it
-use Rattle.std.specs.Prelude.{◌≡◌, ℕ, ◌+◌, ◌<◌, ◌≤◌, List, [], ◌∷◌, length, Some, None, Ok, Err, Option, Result}
+use Rattle.std.specs.Prelude.{◌≡◌, ℕ, ◌+◌, ◌<◌, ◌≤◌, List, ◌∷◌, length, Ok, Err, Option, Result}
 use Rattle.solver.specs.declared.ring.Ring.{Ring}
 use Rattle.solver.specs.declared.times.Times.{Times}
 use Rattle.solver.specs.RingSteps.{ring_steps}
@@ -34,9 +34,8 @@ Ready outcome lines (at.Line p made) = (made < p) × (p ≤ lines + 1)
 Ready outcome lines (at.Step n) = StepReady outcome n
 Ready outcome lines at.Done = Unit {0}
 
-abbrev pub Strode : Result Times Ring → ℕ → (Walk → List SheetForm) → Walk → Option SheetForm → Walk → Type 0
-Strode outcome lines forms w None rest = forms w ≡ []
-Strode outcome lines forms w (Some f) rest = (forms w ≡ f ∷ forms rest) × Ready outcome lines rest
+abbrev pub Strode : Result Times Ring → ℕ → (Walk → List SheetForm) → Walk → SheetForm → Walk → Type 0
+Strode outcome lines forms w f rest = (forms w ≡ f ∷ forms rest) × Ready outcome lines rest
 
 module _ {B E : Type 0} (span_of : E → ℕ → Option Span) (meaning : B → BookMeaning E) (rows : Rows B E) where
   abbrev meant : BookMeaning E
@@ -49,7 +48,7 @@ module _ {B E : Type 0} (span_of : E → ℕ → Option Span) (meaning : B → B
   abbrev pub ReadyAt : Walk → Type 0
   ReadyAt = Ready rows.plan.now.outcome meant.rule.lines
 
-  abbrev pub StrodeFrom : Walk → Option SheetForm → Walk → Type 0
+  abbrev pub StrodeFrom : Walk → SheetForm → Walk → Type 0
   StrodeFrom = Strode rows.plan.now.outcome meant.rule.lines left_of
 
   -- the bytes that are left, and all of them

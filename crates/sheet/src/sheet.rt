@@ -7,7 +7,6 @@ ghost use Rattle.sheet.specs.Strides.{sheet_bytes};
 use crate::room::rooms_of;
 use crate::row::Rows;
 use crate::spanned::Spanned;
-use crate::walk::Walk;
 use book::refusal::{Layer, Refusal, Refused};
 use book::traits::Book;
 use plan::issued::IssuedPlan;
@@ -21,8 +20,7 @@ where
         ensures { result ≡ nat_le (length (sheet_bytes B.Entry.Spanned.span_of B.Book.meaning self.now)) bytes }
     {
         let mut free = bytes;
-        let mut walk = Walk::Head;
-        while let Some(form) = walk.next(self) {
+        for form in self.forms() {
             let size = form.size();
             if size > free {
                 return false;
@@ -39,8 +37,7 @@ where
         ensures bytes { out.new ≡ sheet_bytes B.Entry.Spanned.span_of B.Book.meaning self.now ++ drop result out.old }
     {
         let mut at = 0;
-        let mut walk = Walk::Head;
-        while let Some(form) = walk.next(self) {
+        for form in self.forms() {
             let text = form.text();
             let bytes = text.bytes();
             let end = at + bytes.len();

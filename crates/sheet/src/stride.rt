@@ -1,8 +1,9 @@
-//! One form more of a walk.
+//! The forms of a sheet, one after another.
 
-ghost use Rattle.std.specs.Prelude.{◌≡◌, Some};
+ghost use Rattle.std.specs.Prelude.{◌≡◌};
+ghost use Rattle.std.specs.Iterator.{YieldsFirst, item_count};
 ghost use Rattle.sheet.specs.declared.walk.Walk.TheVariants as at;
-ghost use Rattle.sheet.specs.Strides.{StepReady, ReadyAt, StrodeFrom, head_of, after_head};
+ghost use Rattle.sheet.specs.Strides.{StepReady, ReadyAt, StrodeFrom, left_of, head_of, after_head};
 
 use crate::row::Rows;
 use crate::spanned::Spanned;
@@ -10,10 +11,28 @@ use crate::walk::Walk;
 use book::traits::Book;
 use sheet_forms::form::{OwnedStep, SheetForm};
 
+/// The forms of a sheet that are left, in their order.
+#[derive(Drop)]
+pub(crate) struct Forms<'a, B: Book> {
+    pub rows: &'a Rows<'a, B>,
+    pub at: Walk,
+}
+
 impl<B: Book> Rows<'_, B>
 where
     B::Entry: Spanned,
 {
+    /// The forms of the sheet.
+    pub(crate) fn forms(&self) -> Forms<'_, B>
+        ensures rows { result.rows.now ≡ self.now }
+        ensures all { result.at ≡ at.Head }
+    {
+        Forms {
+            rows: self,
+            at: Walk::Head,
+        }
+    }
+
     /// The head of a sheet, and where the walk goes on after it.
     fn head(&self) -> (SheetForm, Walk)
         ensures form { result.0 ≡ head_of self.now.plan.now.outcome }
@@ -31,7 +50,7 @@ where
     /// The step of a ring after so many, with its owner; the end where there is none.
     fn after_steps(&self, steps: usize) -> (SheetForm, Walk)
         requires { StepReady self.now.plan.now.outcome steps }
-        ensures { StrodeFrom B.Entry.Spanned.span_of B.Book.meaning self.now (at.Step steps) (Some result.0) result.1 }
+        ensures { StrodeFrom B.Entry.Spanned.span_of B.Book.meaning self.now (at.Step steps) result.0 result.1 }
     {
         match self.plan.ring_step(steps + 1) {
             Ok(step) => {
@@ -49,7 +68,7 @@ where
     /// The next row from a line on; the end where there is none.
     fn after_rows(&self, line: usize, made: usize) -> (SheetForm, Walk)
         requires { ReadyAt B.Entry.Spanned.span_of B.Book.meaning self.now (at.Line line made) }
-        ensures { StrodeFrom B.Entry.Spanned.span_of B.Book.meaning self.now (at.Line line made) (Some result.0) result.1 }
+        ensures { StrodeFrom B.Entry.Spanned.span_of B.Book.meaning self.now (at.Line line made) result.0 result.1 }
     {
         match self.next_row(line) {
             Some(row) => (SheetForm::Line(row), Walk::Line(row.line + 1, made + 1)),
@@ -58,21 +77,26 @@ where
     }
 }
 
-impl Walk {
-    /// The next form of the walk; nothing at its end.
-    pub(crate) fn next<B: Book>(&mut self, rows: &Rows<B>) -> Option<SheetForm>
-    where
-        B::Entry: Spanned,
-        requires { ReadyAt B.Entry.Spanned.span_of B.Book.meaning rows.now self.old }
-        ensures { StrodeFrom B.Entry.Spanned.span_of B.Book.meaning rows.now self.old result self.new }
-    {
-        let (form, rest) = match *self {
-            Walk::Head => rows.head(),
-            Walk::Line(line, made) => rows.after_rows(line, made),
-            Walk::Step(steps) => rows.after_steps(steps),
+impl<B: Book> Iterator for Forms<'_, B>
+where
+    B::Entry: Spanned,
+{
+    type Item = SheetForm;
+
+    ghost can_next = { λ s. ReadyAt B.Entry.Spanned.span_of B.Book.meaning s.rows.now s.at };
+
+    ghost next_gives = { YieldsFirst (λ s. left_of B.Entry.Spanned.span_of B.Book.meaning s.rows.now s.at) };
+
+    ghost remaining = { item_count (λ s. left_of B.Entry.Spanned.span_of B.Book.meaning s.rows.now s.at) };
+
+    fn next(&mut self) -> Option<SheetForm> {
+        let (form, rest) = match self.at {
+            Walk::Head => self.rows.head(),
+            Walk::Line(line, made) => self.rows.after_rows(line, made),
+            Walk::Step(steps) => self.rows.after_steps(steps),
             Walk::Done => return None,
         };
-        *self = rest;
+        self.at = rest;
         Some(form)
     }
 }
