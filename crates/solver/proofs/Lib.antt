@@ -1,6 +1,7 @@
 pub mod Climbing
 pub mod Gathering
 pub mod Lowering
+pub mod Lows
 pub mod Raising
 pub mod Settling
 pub mod Sounding

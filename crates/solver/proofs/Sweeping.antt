@@ -65,6 +65,9 @@ module _ (arcs : List Arc) (count events : ℕ) where
   pub moved_none : (ts ps : List ℕ) → Moved arcs count events ts ps ts ps 0
   moved_none ts ps = record { rising = λ start was. was; grows = λ e. omega arith; bound = omega arith }
 
+  pub moved_at : (ts ps us qs vs rs : List ℕ) (n : ℕ) → us ≡ vs → qs ≡ rs → Moved arcs count events ts ps us qs n → Moved arcs count events ts ps vs rs n
+  moved_at ts ps us qs vs rs n e f so = subst (λ x. Moved arcs count events ts ps x rs n) e (subst (λ y. Moved arcs count events ts ps us y n) f so)
+
   -- move after move
   pub moved_join : (ts ps us qs vs rs : List ℕ) (i j : ℕ) → Moved arcs count events ts ps us qs i → Moved arcs count events us qs vs rs j → Moved arcs count events ts ps vs rs (i + j)
   moved_join ts ps us qs vs rs i j f g = record {

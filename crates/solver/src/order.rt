@@ -1,6 +1,8 @@
 //! An order of the arcs that follows them from event to event, so that few sweeps are needed.
 //! It is only a hint: nothing is known of it, and no answer rests on it.
 
+ghost use Rattle.std.specs.Prelude.{◌≤◌, length};
+
 use crate::arcs::Arcs;
 use crate::order::lists::{Lists, leaving, write};
 use crate::order::parts::{Parts, parts_both_ways};
@@ -36,6 +38,16 @@ impl Order {
         }
     }
 
+    /// The arcs to look at in this order before the sweep that goes over every arc, where so many passes can still be owed.
+    /// A pass by the hint counts as two, since an arc can stand in the order twice; where only two passes are left,
+    /// sweeps alone are made.
+    pub(crate) fn hinted_in(&self, passes: usize) -> &[u16]
+        ensures { length result.now ≤ 8192 }
+    {
+        let count = if passes > 2 { self.count } else { 0 };
+        self.indices.get(..count).unwrap_or(&[])
+    }
+
     /// Adds the arcs part by part, each part after those that lead to it. Those of a part of more than one event are
     /// added twice, so that a whole activity, whose start and finish are tied both ways, is at rest when it is left, and
     /// a larger part is gone through there and back.
@@ -49,13 +61,6 @@ impl Order {
             }
         }
     }
-}
-
-/// How many arcs to look at in the hinted order before the sweep that goes over every arc, where so many passes can
-/// still be owed. A pass by the hint counts as two, since an arc can stand in the order twice; where only two passes
-/// are left, sweeps alone are made.
-pub(crate) fn hinted_in(passes: usize, order: &Order) -> usize {
-    if passes > 2 { order.count } else { 0 }
 }
 
 /// How many passes can be owed after a round. Each part comes after those that lead to it, and twice where it has more

@@ -1,7 +1,7 @@
 //! Copies the gaps of a network.
 
-ghost use Rattle.std.specs.Prelude.{◌≡◌, ℕ, ◌≤◌, pos, negsuc, ◌+ℤ◌, ◌≤ℤ◌};
-ghost use Rattle.solver.specs.Arcs.{Gathered, SameGap};
+ghost use Rattle.std.specs.Prelude.{◌≡◌, ℕ, ◌<◌, ◌≤◌, length, IfSome, pos, negsuc, ◌+ℤ◌, ◌≤ℤ◌};
+ghost use Rattle.solver.specs.Arcs.{Gathered, SameGap, arc_at};
 ghost use Rattle.network.specs.Meanings.{Bounded};
 
 use crate::arc::Arc;
@@ -62,6 +62,21 @@ impl Arcs {
             count: 0,
             events,
         }
+    }
+
+    /// The arcs.
+    pub(crate) fn all(&self) -> &[Arc]
+        ensures long { length result.now ≡ self.now.count }
+        ensures each { (k : ℕ) → k < self.now.count → arc_at result.now k ≡ arc_at self.now.arcs k }
+    {
+        &self.arcs[..self.count]
+    }
+
+    /// An arc; nothing where there are not so many.
+    pub(crate) fn get(&self, k: usize) -> Option<Arc>
+        ensures { IfSome result (λ a. (k < self.now.count) × (arc_at self.now.arcs k ≡ a)) }
+    {
+        self.all().get(k).copied()
     }
 
     /// Takes up the standing gaps of a network, in the order of their places. The table is large, so it is filled where

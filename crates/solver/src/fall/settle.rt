@@ -7,7 +7,7 @@ ghost use Rattle.solver.specs.Falling.{Above, Fallen};
 
 use crate::arcs::Arcs;
 use crate::fall::Fall;
-use crate::order::{Order, hinted_in, owed_after};
+use crate::order::{Order, owed_after};
 
 impl Fall {
     /// Lowers times until every arc is met. The order is only a hint: the sweep that changes nothing goes over every arc.
@@ -18,7 +18,7 @@ impl Fall {
     {
         let mut passes = arcs.events + 1;
         loop {
-            self.pull(arcs, order, hinted_in(passes, order));
+            self.pull(arcs, order.hinted_in(passes));
             if !self.sweep(arcs) {
                 return;
             }

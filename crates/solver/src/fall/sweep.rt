@@ -8,7 +8,6 @@ ghost use Rattle.solver.specs.Falling.{Above, Sank, Fell};
 use crate::arc::Arc;
 use crate::arcs::Arcs;
 use crate::fall::Fall;
-use crate::order::Order;
 
 impl Fall {
     /// Lowers the event that an arc leaves, where the arc is not met.
@@ -30,16 +29,16 @@ impl Fall {
         false
     }
 
-    /// Goes over the arcs against a hinted order, as many as `hinted`.
-    pub(crate) fn pull(&mut self, arcs: &Arcs, order: &Order, hinted: usize)
+    /// Goes over the arcs against a hinted order.
+    pub(crate) fn pull(&mut self, arcs: &Arcs, hinted: &[u16])
         requires above { Above arcs.now.arcs arcs.now.count arcs.now.events (time_at self.old.times) }
         requires bound { greatest (time_at self.old.times) arcs.now.events ≤ 3000000000 }
         ensures { Sank arcs.now.arcs arcs.now.count arcs.now.events self.old.times self.new.times }
     {
-        let looks = hinted.min(2 * arcs.count);
-        for i in 0..looks {
-            let k = usize::from(order.indices[looks - 1 - i]).min(arcs.count - 1);
-            let _ = self.lower(arcs.arcs[k]);
+        for hint in hinted.iter().rev() {
+            if let Some(arc) = arcs.get(usize::from(*hint)) {
+                let _ = self.lower(arc);
+            }
         }
     }
 
@@ -50,9 +49,9 @@ impl Fall {
         ensures { Fell arcs.now.arcs arcs.now.count arcs.now.events self.old.times self.new.times arcs.now.count result }
     {
         let mut changed = false;
-        for k in 0..arcs.count {
-            // `|` has no branch, so every arc is looked at
-            changed = changed | self.lower(arcs.arcs[k]);
+        for arc in arcs.all() {
+            // `|=` has no branch, so every arc is looked at
+            changed |= self.lower(*arc);
         }
         changed
     }

@@ -84,7 +84,7 @@ fn listed<F: Fn(&Arc) -> Option<u16>>(arcs: &Arcs, event_of: F) -> Lists<4096>
     requires { F.IsAlwaysCallable event_of }
 {
     let mut lists = Lists::none();
-    for (k, arc) in arcs.arcs[..arcs.count].iter().enumerate() {
+    for (k, arc) in arcs.all().iter().enumerate() {
         if let Some(event) = event_of(arc) {
             lists.add(usize::from(event), k);
         }

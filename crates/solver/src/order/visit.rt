@@ -17,7 +17,7 @@ pub(crate) struct Visit {
 }
 
 /// The event at the other end of an arc.
-fn other_end(arc: &Arc, event: usize) -> usize {
+fn other_end(arc: Arc, event: usize) -> usize {
     let left = usize::from(arc.left);
     if left == event {
         usize::from(arc.reached)
@@ -77,7 +77,7 @@ impl Visit {
             }
             let here = at(&self.way, self.depth - 1);
             let taken = self.take_arc(lists, here);
-            match taken.and_then(|k| arcs.arcs.get(k)) {
+            match taken.and_then(|k| arcs.get(k)) {
                 None => self.leave(here),
                 Some(arc) => {
                     let next = other_end(arc, here);

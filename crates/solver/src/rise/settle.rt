@@ -7,7 +7,7 @@ ghost use Rattle.solver.specs.Walks.{Risen};
 ghost use Rattle.solver.specs.Outcomes.{Outcome};
 
 use crate::arcs::Arcs;
-use crate::order::{Order, hinted_in, owed_after};
+use crate::order::{Order, owed_after};
 use crate::rise::Rise;
 
 impl Rise {
@@ -21,7 +21,7 @@ impl Rise {
     {
         let mut passes = arcs.events + 1;
         loop {
-            self.push(arcs, order, hinted_in(passes, order));
+            self.push(arcs, order.hinted_in(passes));
             let changed = self.sweep(arcs);
             if let Some(r) = self.look(arcs) {
                 return Err(r);

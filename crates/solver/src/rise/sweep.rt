@@ -1,12 +1,11 @@
 //! One pass over the arcs.
 
-ghost use Rattle.std.specs.Prelude.{◌≡◌, ◌+◌, ◌-◌, ◌*◌, ◌^◌, ◌<◌, ◌≤◌, if◌then◌else◌, nat_lt, slice_set};
+ghost use Rattle.std.specs.Prelude.{◌≡◌, ◌+◌, ◌-◌, ◌^◌, ◌<◌, ◌≤◌, length, if◌then◌else◌, nat_lt, slice_set};
 ghost use Rattle.network.specs.Schedules.{greatest};
 ghost use Rattle.solver.specs.Rising.{time_at, Moved, Swept};
 
 use crate::arc::Arc;
 use crate::arcs::Arcs;
-use crate::order::Order;
 use crate::rise::Rise;
 
 impl Rise {
@@ -31,14 +30,17 @@ impl Rise {
         false
     }
 
-    /// Goes over the arcs in a hinted order, as many as `hinted`.
-    pub(crate) fn push(&mut self, arcs: &Arcs, order: &Order, hinted: usize)
-        requires { greatest (time_at self.old.times) arcs.now.events ≤ 3000000000 }
-        ensures { Moved arcs.now.arcs arcs.now.count arcs.now.events self.old.times self.old.parents self.new.times self.new.parents (2 * arcs.now.count) }
+    /// Goes over the arcs in a hinted order.
+    pub(crate) fn push(&mut self, arcs: &Arcs, hinted: &[u16])
+        requires few { length hinted.now ≤ 8192 }
+        requires bound { greatest (time_at self.old.times) arcs.now.events ≤ 3000000000 }
+        ensures { Moved arcs.now.arcs arcs.now.count arcs.now.events self.old.times self.old.parents self.new.times self.new.parents (length hinted.now) }
     {
-        for i in 0..hinted.min(2 * arcs.count) {
-            let k = usize::from(order.indices[i]).min(arcs.count - 1);
-            let _ = self.raise(k, arcs.arcs[k]);
+        for hint in hinted {
+            let k = usize::from(*hint);
+            if let Some(arc) = arcs.get(k) {
+                let _ = self.raise(k, arc);
+            }
         }
     }
 
@@ -48,9 +50,9 @@ impl Rise {
         ensures { Swept arcs.now.arcs arcs.now.count arcs.now.events self.old.times self.old.parents self.new.times self.new.parents arcs.now.count result }
     {
         let mut changed = false;
-        for k in 0..arcs.count {
-            // `|` has no branch, so every arc is looked at
-            changed = changed | self.raise(k, arcs.arcs[k]);
+        for (k, arc) in arcs.all().iter().enumerate() {
+            // `|=` has no branch, so every arc is looked at
+            changed |= self.raise(k, *arc);
         }
         changed
     }

@@ -1,43 +1,43 @@
-use Rattle.std.proofs.Common.{◌*◌, ◌<◌, ◌≤◌, refl, arith}
+use Rattle.std.proofs.Common.{◌+◌, sym, ap, subst, arith}
 use Rattle.network.proofs.Lengths.{greatest_bounds}
-use Rattle.solver.specs.Arcs.{arc_at}
-use Rattle.solver.specs.Rising.{time_at}
-use Rattle.solver.proofs.Sweeping.{moved_none, moved_one, moved_join}
+use Rattle.solver.specs.Rising.{time_at, LowArc, Moved}
+use Rattle.solver.proofs.Lows.{lows}
+use Rattle.solver.proofs.Sweeping.{moved_none, moved_one, moved_join, moved_at}
 use Rattle.solver.proofs.rise.Rise.push.Goals as goal
+use Rattle.solver.proofs.rise.Rise.push.Goals.{in-Some, in_default}
 
 pub raise-requires : goal.raise-requires
 raise-requires c =
     let arcs = c.args.arcs.now in
-    let k = c.min-k.result in
-    let a = arc_at arcs.arcs k in
-    let inside : k < arcs.count = omega arith in
-    let left = arcs.lefts k inside in
-    let reached = arcs.ends k inside in
-    let up = arcs.ups k inside in
-    let down = arcs.downs k inside in
-    let x = greatest_bounds (time_at c.loop-i.self.times) arcs.events a.left left in
-    let y = greatest_bounds (time_at c.loop-i.self.times) arcs.events a.reached reached in
+    let found = c.in-Some.ensures in
+    let a = c.in-Some.arc in
+    let low : LowArc arcs.events a = subst (LowArc arcs.events) found.1 (lows arcs c.from-k.result found.0) in
+    let x = greatest_bounds (time_at c.loop-hint.self.times) arcs.events a.left low.0 in
+    let y = greatest_bounds (time_at c.loop-hint.self.times) arcs.events a.reached low.1.0 in
     let few = arcs.few in
     let small = arcs.small in
-    let bound = c.loop-i.invariant.bound in
-    record { left = omega arith; reached = omega arith; index = omega arith; up = omega arith; down = omega arith }
+    let bound = c.loop-hint.invariant.bound in
+    record { left = omega arith; reached = omega arith; index = omega (arith, found.0); up = omega arith; down = omega arith }
 
-pub loop-i-preserved : goal.loop-i-preserved
-loop-i-preserved c =
+pub loop-hint-init : goal.loop-hint-init
+loop-hint-init c = moved_none c.args.arcs.now.arcs c.args.arcs.now.count c.args.arcs.now.events c.args.self.now.times c.args.self.now.parents
+
+pub loop-hint-preserved : goal.loop-hint-preserved
+loop-hint-preserved c =
     let arcs = c.args.arcs.now in
-    let k = c.min-k.result in
-    let inside : k < arcs.count = omega arith in
-    let told = c.raise.ensures in
-    moved_join arcs.arcs arcs.count arcs.events c.args.self.now.times c.args.self.now.parents c.loop-i.self.times c.loop-i.self.parents c.raise.new.self.times c.raise.new.self.parents c.loop-i.i 1 c.loop-i.invariant
-    (moved_one arcs.arcs arcs.count arcs.events c.loop-i.self.times c.loop-i.self.parents k inside c.loop-i.self.timed c.loop-i.self.tied arcs.small (arc_at arcs.arcs k) refl (arcs.lefts k inside, (arcs.ends k inside, (arcs.ups k inside, arcs.downs k inside)))
-    c.raise.result c.raise.new.self.times c.raise.new.self.parents told.told told.times told.parents)
-
-pub loop-i-init : goal.loop-i-init
-loop-i-init c = moved_none c.args.arcs.now.arcs c.args.arcs.now.count c.args.arcs.now.events c.args.self.now.times c.args.self.now.parents
+    let so = c.loop-hint.invariant in
+    elim c.match-get.branch [
+      | in-Some w ↦
+          let found = w.in-Some.ensures in
+          let told = w.raise.ensures in
+          moved_at arcs.arcs arcs.count arcs.events c.args.self.now.times c.args.self.now.parents _ _ _ _ (c.loop-hint.hint-index + 1) (sym (ap (λ s. s.times) w.self-is)) (sym (ap (λ s. s.parents) w.self-is))
+          (moved_join arcs.arcs arcs.count arcs.events c.args.self.now.times c.args.self.now.parents c.loop-hint.self.times c.loop-hint.self.parents w.raise.new.self.times w.raise.new.self.parents c.loop-hint.hint-index 1 so
+          (moved_one arcs.arcs arcs.count arcs.events c.loop-hint.self.times c.loop-hint.self.parents c.from-k.result found.0 c.loop-hint.self.timed c.loop-hint.self.tied arcs.small w.in-Some.arc found.1 (subst (LowArc arcs.events) found.1 (lows arcs c.from-k.result found.0))
+          w.raise.result w.raise.new.self.times w.raise.new.self.parents told.told told.times told.parents))
+      | in_default w ↦
+          moved_at arcs.arcs arcs.count arcs.events c.args.self.now.times c.args.self.now.parents _ _ _ _ (c.loop-hint.hint-index + 1) (sym (ap (λ s. s.times) w.self-is)) (sym (ap (λ s. s.parents) w.self-is))
+          (record { rising = so.rising; grows = so.grows; bound = omega (arith, so.bound) })
+    ]
 
 pub returns : goal.returns
-returns c =
-    let moved = c.loop-i.invariant in
-    let bound = moved.bound in
-    let few : c.loop-i.i ≤ 2 * c.args.arcs.now.count = omega arith in
-    record { rising = moved.rising; grows = moved.grows; bound = omega arith }
+returns c = subst (Moved c.args.arcs.now.arcs c.args.arcs.now.count c.args.arcs.now.events c.args.self.now.times c.args.self.now.parents c.loop-hint.self.times c.loop-hint.self.parents) (omega arith) c.loop-hint.invariant

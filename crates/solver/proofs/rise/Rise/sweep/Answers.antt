@@ -1,7 +1,8 @@
-use Rattle.std.proofs.Common.{◌≡◌, refl, subst, arith}
+use Rattle.std.proofs.Common.{◌≡◌, ◌<◌, sym, subst, arith}
 use Rattle.network.proofs.Lengths.{greatest_bounds}
 use Rattle.solver.specs.Arcs.{arc_at}
-use Rattle.solver.specs.Rising.{time_at, Swept}
+use Rattle.solver.specs.Rising.{time_at, LowArc, Swept}
+use Rattle.solver.proofs.Lows.{lows}
 use Rattle.solver.proofs.Sweeping.{swept_none, swept_next}
 use Rattle.solver.proofs.rise.Rise.sweep.Goals as goal
 
@@ -9,13 +10,12 @@ pub raise-changed-requires : goal.raise-changed-requires
 raise-changed-requires c =
     let arcs = c.args.arcs.now in
     let k = c.loop-k.k in
-    let a = arc_at arcs.arcs k in
-    let left = arcs.lefts k c.loop-k-test.true in
-    let reached = arcs.ends k c.loop-k-test.true in
-    let up = arcs.ups k c.loop-k-test.true in
-    let down = arcs.downs k c.loop-k-test.true in
-    let x = greatest_bounds (time_at c.loop-k.self.times) arcs.events a.left left in
-    let y = greatest_bounds (time_at c.loop-k.self.times) arcs.events a.reached reached in
+    let all = c.all-arc-items in
+    let a = arc_at all.result.now k in
+    let inside : k < arcs.count = omega arith in
+    let low : LowArc arcs.events a = subst (LowArc arcs.events) (sym (all.ensures.each k inside)) (lows arcs k inside) in
+    let x = greatest_bounds (time_at c.loop-k.self.times) arcs.events a.left low.0 in
+    let y = greatest_bounds (time_at c.loop-k.self.times) arcs.events a.reached low.1.0 in
     let few = arcs.few in
     let small = arcs.small in
     let bound = c.loop-k.invariant.bound in
@@ -25,10 +25,12 @@ pub loop-k-preserved : goal.loop-k-preserved
 loop-k-preserved c =
     let arcs = c.args.arcs.now in
     let k = c.loop-k.k in
-    let inside = c.loop-k-test.true in
+    let all = c.all-arc-items in
+    let inside : k < arcs.count = omega arith in
+    let is = sym (all.ensures.each k inside) in
     let told = c.raise-changed.ensures in
     swept_next arcs.arcs arcs.count arcs.events c.args.self.now.times c.args.self.now.parents c.loop-k.self.times c.loop-k.self.parents k c.loop-k.changed c.loop-k.invariant
-    inside c.loop-k.self.timed c.loop-k.self.tied arcs.small (arc_at arcs.arcs k) refl (arcs.lefts k inside, (arcs.ends k inside, (arcs.ups k inside, arcs.downs k inside)))
+    inside c.loop-k.self.timed c.loop-k.self.tied arcs.small (arc_at all.result.now k) is (subst (LowArc arcs.events) is (lows arcs k inside))
     c.raise-changed.result c.raise-changed.new.self.times c.raise-changed.new.self.parents told.told told.times told.parents
 
 pub loop-k-init : goal.loop-k-init

@@ -1,13 +1,10 @@
 use Rattle.std.proofs.Common.{◌≡◌, ◌+◌, ◌-◌, ◌≤◌, set, sym, ap, ◌∙◌, subst, arith}
 use Rattle.std.proofs.lemmas.List.{length-set}
-use Rattle.solver.specs.declared.arcs.Arcs.{Arcs}
 use Rattle.solver.specs.Arcs.{arc_at}
-use Rattle.solver.specs.Rising.{time_at, AllLow, parent_of}
+use Rattle.solver.specs.Rising.{time_at, parent_of}
+use Rattle.solver.proofs.Lows.{lows}
 use Rattle.solver.proofs.Walking.{Midway, midway_none, midway_next, walked_end, ring_found, walked_joined, one_more, room}
 use Rattle.solver.proofs.rise.Rise.walk.Goals as goal
-
-lows : (arcs : Arcs) → AllLow arcs.arcs arcs.count arcs.events
-lows arcs k h = (arcs.lefts k h, (arcs.ends k h, (arcs.ups k h, arcs.downs k h)))
 
 pub loop-marks-init : goal.loop-marks-init
 loop-marks-init c =
