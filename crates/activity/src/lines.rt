@@ -25,6 +25,8 @@ const EVENTS: usize = 800;
 const PLACES: usize = 800;
 
 /// 400 lines of activities and relations.
+// A kind of lines holds its own table, and hands it on: a book over the entries alone would leave no place in this crate at
+// which it is said what stands on a new book.
 #[derive(Drop)]
 pub struct ActivityLines {
     table: LineTable<Entry>,
@@ -52,6 +54,7 @@ impl ActivityLines {
     fn is_named(&self, p: usize) -> bool
         ensures { result ≡ named (standing self.now.table) p }
     {
+        // `any` over the lines was tried, and the proof did not close
         for q in 1..=LINES {
             if names_line(self.table.get(q), p) {
                 return true;

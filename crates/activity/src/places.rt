@@ -12,6 +12,9 @@ use book::range::is_within;
 use network::gap::Gap;
 use table::LINES;
 
+// That a line is at most 400 bounds twice its number. A type for lines would be made and taken apart at each call of
+// `Lines`, which numbers them as every book does, and say no more than the clause.
+
 /// The event at which the activity on a line starts.
 fn start_of(p: usize) -> usize
     requires { p ≤ 400 }
@@ -53,6 +56,8 @@ pub(crate) fn ends_by(p: usize, a: Activity) -> Option<Gap>
     })
 }
 
+/// The event of the first activity that a relation ties: the kind's first letter says which.
+// One function for both letters would take the letter as a parameter, and tell the same cases apart.
 fn first_event(kind: Kind, a: usize) -> usize
     requires { a ≤ 400 }
     ensures { result ≡ first_event kind a }
@@ -63,6 +68,7 @@ fn first_event(kind: Kind, a: usize) -> usize
     }
 }
 
+/// The event of the second activity: the kind's second letter says which.
 fn second_event(kind: Kind, b: usize) -> usize
     requires { b ≤ 400 }
     ensures { result ≡ second_event kind b }

@@ -15,6 +15,8 @@ use network::gap::{Gap, Owner};
 use table::{LINES, LineTable, Table};
 
 /// 400 lines of arrows.
+// A kind of lines holds its own table, and hands it on: a book over the entries alone would leave no place in this crate at
+// which it is said what stands on a new book.
 #[derive(Drop)]
 pub struct ArrowLines {
     table: LineTable<Arrow>,

@@ -7,5 +7,5 @@ ghost use Rattle.book.specs.Rules.{within};
 pub fn is_within(n: usize, end: usize) -> bool
     ensures { result ≡ within n end }
 {
-    1 <= n && n <= end
+    (1..=end).contains(&n)
 }

@@ -11,6 +11,9 @@ use crate::date::Date;
 use crate::refusal::Refused;
 use network::network::Network;
 
+// Each call names its four facts one by one, so that a caller cites the one that it needs: one word for them would hide the
+// equations, and the call would still have to be named in it.
+
 /// A network that takes entries on lines, and dates on date places; both are numbered from 1.
 /// Every call is answered: carried out, or refused with everything left as it was.
 pub trait Book: Network {
