@@ -9,8 +9,9 @@ use Rattle.network.specs.Meanings.{Meaning}
 use Rattle.network.specs.Rings.{StepOf, Leads, sum_days, Contradictory}
 use Rattle.network.proofs.Contradictions.{no_ring}
 use Rattle.solver.specs.declared.arc.Arc.{Arc}
+use Rattle.solver.specs.declared.arcs.Arcs.{Arcs}
 use Rattle.solver.specs.Arcs.{ArcOf, Gathered}
-use Rattle.solver.specs.Rising.{AllLow, Raised, Rising, parent_of}
+use Rattle.solver.specs.Rising.{Raised, Rising, parent_of}
 use Rattle.solver.specs.RingSteps.{step_of, floor_to, last_first, Ends}
 use Rattle.solver.specs.Walks.{before, ups, RingAt}
 use Rattle.solver.proofs.Walking.{was_raised, before_inside, ups_one, ups_zero}
@@ -40,35 +41,35 @@ last_first_more : (xs : List Step) (n : ℕ) → last_first xs (n + 1) ≡ get_o
 unfolding last_first
 last_first_more xs n = let one : n + 1 ≡ suc n = omega arith in ap (last_first xs) one
 
-module _ (arcs : List Arc) (count events : ℕ) (t par : ℕ → ℕ) (r : ℕ) where
+module _ (arcs : Arcs) (t par : ℕ → ℕ) (r : ℕ) where
   -- the climb from r has come to `at` by i steps
   pub record Climb (steps : List Step) (i at : ℕ) : Type 0 where
     pub long : length steps ≡ 1024
-    pub there : ups arcs count events t par i r ≡ at
-    pub inside : (j : ℕ) → j ≤ i → ups arcs count events t par j r ≤ events
-    pub raised : (j : ℕ) → j < i → 1 ≤ par (ups arcs count events t par j r)
-    pub open_still : (j : ℕ) → 1 ≤ j → j ≤ i → ups arcs count events t par j r ≡ r → ⊥
-    pub taken : (j : ℕ) → j < i → get_or steps j (floor_to 0) ≡ step_of (parent_of arcs count events par (ups arcs count events t par j r))
+    pub there : ups arcs t par i r ≡ at
+    pub inside : (j : ℕ) → j ≤ i → ups arcs t par j r ≤ arcs.events
+    pub raised : (j : ℕ) → j < i → 1 ≤ par (ups arcs t par j r)
+    pub open_still : (j : ℕ) → 1 ≤ j → j ≤ i → ups arcs t par j r ≡ r → ⊥
+    pub taken : (j : ℕ) → j < i → get_or steps j (floor_to 0) ≡ step_of (parent_of arcs par (ups arcs t par j r))
 
-module _ (arcs : List Arc) (count events : ℕ) (t par : ℕ → ℕ) (r : ℕ) where
+module _ (arcs : Arcs) (t par : ℕ → ℕ) (r : ℕ) where
   -- the first n steps are those of the climb from r
   pub record Way (steps : List Step) (n : ℕ) : Type 0 where
-    pub inside : (j : ℕ) → j ≤ n → ups arcs count events t par j r ≤ events
-    pub raised : (j : ℕ) → j < n → 1 ≤ par (ups arcs count events t par j r)
-    pub taken : (j : ℕ) → j < n → get_or steps j (floor_to 0) ≡ step_of (parent_of arcs count events par (ups arcs count events t par j r))
+    pub inside : (j : ℕ) → j ≤ n → ups arcs t par j r ≤ arcs.events
+    pub raised : (j : ℕ) → j < n → 1 ≤ par (ups arcs t par j r)
+    pub taken : (j : ℕ) → j < n → get_or steps j (floor_to 0) ≡ step_of (parent_of arcs par (ups arcs t par j r))
 
-module _ (arcs : List Arc) (count events : ℕ) (lows : AllLow arcs count events) (start t par : ℕ → ℕ) (rising : Rising arcs count events start t par)
-    (S : ℕ) (starts : (e : ℕ) → e ≤ events → start e ≤ S) (r : ℕ) where
+module _ (arcs : Arcs) (start t par : ℕ → ℕ) (rising : Rising arcs start t par)
+    (S : ℕ) (starts : (e : ℕ) → e ≤ arcs.events → start e ≤ S) (r : ℕ) where
   abbrev u : ℕ → ℕ
-  u j = ups arcs count events t par j r
+  u j = ups arcs t par j r
 
   u_zero : u 0 ≡ r
-  u_zero = ups_zero arcs count events lows start t par rising S starts r
+  u_zero = ups_zero arcs start t par rising S starts r
 
-  u_one : (j : ℕ) → u (j + 1) ≡ before arcs count events t par (u j)
-  u_one j = ups_one arcs count events lows start t par rising S starts j r
+  u_one : (j : ℕ) → u (j + 1) ≡ before arcs t par (u j)
+  u_one j = ups_one arcs start t par rising S starts j r
 
-  pub climb_none : (steps : List Step) → length steps ≡ 1024 → r ≤ events → Climb arcs count events t par r steps 0 r
+  pub climb_none : (steps : List Step) → length steps ≡ 1024 → r ≤ arcs.events → Climb arcs t par r steps 0 r
   climb_none steps long h = record {
     long = long;
     there = u_zero;
@@ -78,8 +79,8 @@ module _ (arcs : List Arc) (count events : ℕ) (lows : AllLow arcs count events
     taken = λ j l. absurd (omega arith);
   }
 
-  module _ (steps : List Step) (i at : ℕ) (climb : Climb arcs count events t par r steps i at) (room : i < 1024) (some : 1 ≤ par at) (step : Step) (is : step ≡ step_of (parent_of arcs count events par at)) where
-    at_inside : at ≤ events
+  module _ (steps : List Step) (i at : ℕ) (climb : Climb arcs t par r steps i at) (room : i < 1024) (some : 1 ≤ par at) (step : Step) (is : step ≡ step_of (parent_of arcs par at)) where
+    at_inside : at ≤ arcs.events
     at_inside = let x = climb.inside i (omega arith) in omega (arith, climb.there)
 
     here : get_or (set steps i step) i (floor_to 0) ≡ step
@@ -88,12 +89,12 @@ module _ (arcs : List Arc) (count events : ℕ) (lows : AllLow arcs count events
     there : (j : ℕ) → (j ≡ i → ⊥) → get_or (set steps i step) j (floor_to 0) ≡ get_or steps j (floor_to 0)
     there j n = let ne : j ≢ i = n in get_or-set_other steps i j step (floor_to 0) ne
 
-    pub next_is : u (i + 1) ≡ before arcs count events t par at
-    next_is = u_one i ∙ ap (before arcs count events t par) climb.there
+    pub next_is : u (i + 1) ≡ before arcs t par at
+    next_is = u_one i ∙ ap (before arcs t par) climb.there
 
-    taken' : (j : ℕ) → j < i + 1 → get_or (set steps i step) j (floor_to 0) ≡ step_of (parent_of arcs count events par (u j))
+    taken' : (j : ℕ) → j < i + 1 → get_or (set steps i step) j (floor_to 0) ≡ step_of (parent_of arcs par (u j))
     taken' j l = ⊎_elim
-        (λ (same : j ≡ i). ap (λ k. get_or (set steps i step) k (floor_to 0)) same ∙ here ∙ is ∙ ap (λ e. step_of (parent_of arcs count events par e)) (sym (ap u same ∙ climb.there)))
+        (λ (same : j ≡ i). ap (λ k. get_or (set steps i step) k (floor_to 0)) same ∙ here ∙ is ∙ ap (λ e. step_of (parent_of arcs par e)) (sym (ap u same ∙ climb.there)))
         (λ (other : j ≡ i → ⊥). there j other ∙ climb.taken j (omega arith))
         (cases_eq j i)
 
@@ -103,13 +104,13 @@ module _ (arcs : List Arc) (count events : ℕ) (lows : AllLow arcs count events
         (λ (other : j ≡ i → ⊥). climb.raised j (omega arith))
         (cases_eq j i)
 
-    inside' : (j : ℕ) → j ≤ i + 1 → u j ≤ events
+    inside' : (j : ℕ) → j ≤ i + 1 → u j ≤ arcs.events
     inside' j l = ⊎_elim
-        (λ (same : j ≡ i + 1). let x = ap u same ∙ next_is in let y = before_inside arcs count events lows start t par rising S starts at at_inside some in omega arith)
+        (λ (same : j ≡ i + 1). let x = ap u same ∙ next_is in let y = before_inside arcs start t par rising S starts at at_inside some in omega arith)
         (λ (other : j ≡ i + 1 → ⊥). climb.inside j (omega arith))
         (cases_eq j (i + 1))
 
-    pub climb_more : (before arcs count events t par at ≡ r → ⊥) → Climb arcs count events t par r (set steps i step) (i + 1) (before arcs count events t par at)
+    pub climb_more : (before arcs t par at ≡ r → ⊥) → Climb arcs t par r (set steps i step) (i + 1) (before arcs t par at)
     climb_more on = record {
       long = length-set steps i step ∙ climb.long;
       there = next_is;
@@ -122,20 +123,20 @@ module _ (arcs : List Arc) (count events : ℕ) (lows : AllLow arcs count events
       taken = taken';
     }
 
-    pub way_closed : Way arcs count events t par r (set steps i step) (i + 1)
+    pub way_closed : Way arcs t par r (set steps i step) (i + 1)
     way_closed = record { inside = inside'; raised = raised'; taken = taken' }
 
-  module _ (xs : List Step) (n : ℕ) (way : Way arcs count events t par r xs n) where
-    was : (j : ℕ) → j < n → Raised arcs count events rising.order t par (u j)
-    was j l = was_raised arcs count events lows start t par rising S starts (u j) (way.inside j (omega arith)) (way.raised j l)
+  module _ (xs : List Step) (n : ℕ) (way : Way arcs t par r xs n) where
+    was : (j : ℕ) → j < n → Raised arcs rising.order t par (u j)
+    was j l = was_raised arcs start t par rising S starts (u j) (way.inside j (omega arith)) (way.raised j l)
 
-    leads : (m : Meaning) → Gathered m arcs count → (k : ℕ) → k ≤ n → Leads m (u k) (last_first xs k) r
+    leads : (m : Meaning) → Gathered m arcs.arcs arcs.count → (k : ℕ) → k ≤ n → Leads m (u k) (last_first xs k) r
     unfolding last_first
     leads m all zero h = u_zero
     leads m all (suc k) h =
         let raised = was k (omega arith) in
         let is = way.taken k (omega arith) in
-        let a = parent_of arcs count events par (u k) in
+        let a = parent_of arcs par (u k) in
         let one : suc k ≡ k + 1 = omega arith in
         let arc = all.each (par (u k) - 1) (omega (arith, raised.some, raised.low)) in (
           subst (StepOf m) (sym is) (arc_step m a arc),
@@ -153,7 +154,7 @@ module _ (arcs : List Arc) (count events : ℕ) (lows : AllLow arcs count events
     gained (suc k) h =
         let raised = was k (omega arith) in
         let is = way.taken k (omega arith) in
-        let a = parent_of arcs count events par (u k) in
+        let a = parent_of arcs par (u k) in
         let days : (get_or xs k (floor_to 0)).gap.days ≡ pos a.up -ℤ pos a.down = ap (λ (s : Step). s.gap.days) is in
         let one : suc k ≡ k + 1 = omega arith in
         let up : u (suc k) ≡ a.left = ap u one ∙ u_one k in
@@ -171,7 +172,7 @@ module _ (arcs : List Arc) (count events : ℕ) (lows : AllLow arcs count events
         (gained k (omega arith))
 
     -- a climb that comes back
-    pub closed_ring : (m : Meaning) → Gathered m arcs count → m.events ≡ events → 1 ≤ n → n ≤ events + 1 → u n ≡ r → Contradictory m (last_first xs n)
+    pub closed_ring : (m : Meaning) → Gathered m arcs.arcs arcs.count → m.events ≡ arcs.events → 1 ≤ n → n ≤ arcs.events + 1 → u n ≡ r → Contradictory m (last_first xs n)
     closed_ring m all same some few back =
         let around = subst (λ e. Leads m e (last_first xs n) r) back (leads m all n (omega arith)) in
         let tb = ap t back in
@@ -191,7 +192,7 @@ module _ (arcs : List Arc) (count events : ℕ) (lows : AllLow arcs count events
         }
 
     -- a climb from event 0 that ends: the floor closes it
-    pub floor_ring : (m : Meaning) → Gathered m arcs count → m.events ≡ events → r ≡ 0 → n < events + 1 → t (u n) ≡ 0 → 1 ≤ t r → get_or xs n (floor_to 0) ≡ floor_to (u n) → Contradictory m (last_first xs (n + 1))
+    pub floor_ring : (m : Meaning) → Gathered m arcs.arcs arcs.count → m.events ≡ arcs.events → r ≡ 0 → n < arcs.events + 1 → t (u n) ≡ 0 → 1 ≤ t r → get_or xs n (floor_to 0) ≡ floor_to (u n) → Contradictory m (last_first xs (n + 1))
     floor_ring m all same first few low high is =
         let list = last_first_more xs n ∙ ap (λ s. s ∷ last_first xs n) is in
         let Way-up = leads m all n (omega arith) in
@@ -212,19 +213,19 @@ module _ (arcs : List Arc) (count events : ℕ) (lows : AllLow arcs count events
         })
 
   -- what a climb ends in
-  module _ (steps : List Step) (i at : ℕ) (climb : Climb arcs count events t par r steps i at) (room : i < 1024) where
-    pub ring_closed : (some : 1 ≤ par at) (step : Step) (is : step ≡ step_of (parent_of arcs count events par at)) → before arcs count events t par at ≡ r → i < events + 1
-        → (m : Meaning) → Gathered m arcs count → m.events ≡ events → Contradictory m (last_first (set steps i step) (i + 1))
+  module _ (steps : List Step) (i at : ℕ) (climb : Climb arcs t par r steps i at) (room : i < 1024) where
+    pub ring_closed : (some : 1 ≤ par at) (step : Step) (is : step ≡ step_of (parent_of arcs par at)) → before arcs t par at ≡ r → i < arcs.events + 1
+        → (m : Meaning) → Gathered m arcs.arcs arcs.count → m.events ≡ arcs.events → Contradictory m (last_first (set steps i step) (i + 1))
     ring_closed some step is back few m all same =
         closed_ring (set steps i step) (i + 1) (way_closed steps i at climb room some step is) m all same (omega arith) (omega arith) (next_is steps i at climb room some step is ∙ back)
 
-    pub ring_floored : par at ≡ 0 → r ≡ 0 → ((e : ℕ) → start e ≡ 0) → 1 ≤ t 0 → i < events + 1
-        → (m : Meaning) → Gathered m arcs count → m.events ≡ events → Contradictory m (last_first (set steps i (floor_to at)) (i + 1))
+    pub ring_floored : par at ≡ 0 → r ≡ 0 → ((e : ℕ) → start e ≡ 0) → 1 ≤ t 0 → i < arcs.events + 1
+        → (m : Meaning) → Gathered m arcs.arcs arcs.count → m.events ≡ arcs.events → Contradictory m (last_first (set steps i (floor_to at)) (i + 1))
     ring_floored none first noughts high few m all same =
-        let inside : at ≤ events = (let x = climb.inside i (omega arith) in omega (arith, climb.there)) in
+        let inside : at ≤ arcs.events = (let x = climb.inside i (omega arith) in omega (arith, climb.there)) in
         let low : t at ≡ 0 = ⊎_elim
         (λ (root : (par at ≡ 0) × (t at ≡ start at)). root.1 ∙ noughts at)
-        (λ (up : Raised arcs count events rising.order t par at). absurd (omega (arith, up.some)))
+        (λ (up : Raised arcs rising.order t par at). absurd (omega (arith, up.some)))
         (rising.held at inside) in
         floor_ring (set steps i (floor_to at)) i
         (record {
@@ -234,19 +235,19 @@ module _ (arcs : List Arc) (count events : ℕ) (lows : AllLow arcs count events
         }) m all same first few (ap t climb.there ∙ low) (let x = ap t first in omega arith)
         (get_or-set_same steps i (floor_to at) (floor_to 0) (omega (arith, climb.long)) ∙ ap floor_to (sym climb.there))
 
-  module _ (steps : List Step) (i at : ℕ) (climb : Climb arcs count events t par r steps i at) where
+  module _ (steps : List Step) (i at : ℕ) (climb : Climb arcs t par r steps i at) where
     -- it does end
-    pub climb_ends : Ends arcs count events t par r → events + 1 ≤ i → ⊥
+    pub climb_ends : Ends arcs t par r → arcs.events + 1 ≤ i → ⊥
     climb_ends (inl ring) past = climb.open_still ring.steps ring.some (omega (arith, ring.few)) ring.back
     climb_ends (inr lifted) past =
         let root = lifted.1.1 in
         let up = climb.raised root.steps (omega (arith, root.few)) in
-        let same : ups arcs count events t par root.steps 0 ≡ u root.steps = ap (ups arcs count events t par root.steps) (sym lifted.0) in
+        let same : ups arcs t par root.steps 0 ≡ u root.steps = ap (ups arcs t par root.steps) (sym lifted.0) in
         let x = ap par same in
         omega (arith, root.root)
 
     -- and a climb on a ring meets no event that was never raised
-    pub ring_raised : RingAt arcs count events t par r → i < events + 1 → par at ≡ 0 → ⊥
+    pub ring_raised : RingAt arcs t par r → i < arcs.events + 1 → par at ≡ 0 → ⊥
     ring_raised ring few none = ⊎_elim
         (λ (early : i < ring.steps). let x = ring.raised i early in let y = ap par climb.there in omega arith)
         (λ (late : ring.steps ≤ i). climb.open_still ring.steps ring.some late ring.back)

@@ -4,6 +4,7 @@ use Rattle.std.proofs.lemmas.Bool.{cases_eq}
 use Rattle.network.specs.Schedules.{greatest}
 use Rattle.network.proofs.Lengths.{greatest_least}
 use Rattle.solver.specs.declared.arc.Arc.{Arc}
+use Rattle.solver.specs.declared.arcs.Arcs.{Arcs}
 use Rattle.solver.specs.Walks.{Rooted}
 
 -- how far the times of events 0 to n are below a limit, together
@@ -25,9 +26,9 @@ slack_falls lim s t (suc n) grows low e h less = ⊎_elim
     (cases_eq e (suc n))
 
 -- events that lead back to one that was never raised are early
-module _ (arcs : List Arc) (count events : ℕ) (t par : ℕ → ℕ) (small : events ≤ 1023) (all : (e : ℕ) → e ≤ events → Rooted arcs count events t par 102398976 (events + 1) e) where
-  pub early : (e : ℕ) → e ≤ events → t e ≤ 204800000
-  early e h = let r = all e h in omega (arith, r.few, r.early)
+module _ (arcs : Arcs) (t par : ℕ → ℕ) (all : (e : ℕ) → e ≤ arcs.events → Rooted arcs t par 102398976 (arcs.events + 1) e) where
+  pub early : (e : ℕ) → e ≤ arcs.events → t e ≤ 204800000
+  early e h = let r = all e h in omega (arith, r.few, r.early, arcs.small)
 
-  pub all_early : greatest t events ≤ 204800000
-  all_early = greatest_least t events 204800000 early
+  pub all_early : greatest t arcs.events ≤ 204800000
+  all_early = greatest_least t arcs.events 204800000 early

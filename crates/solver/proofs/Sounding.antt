@@ -10,6 +10,7 @@ use Rattle.network.specs.Schedules.{Meets, Schedule, greatest, Sound}
 use Rattle.network.proofs.Lengths.{greatest_bounds, greatest_least, greatest_grows}
 use Rattle.network.proofs.Windows.{windows_sound}
 use Rattle.solver.specs.declared.arc.Arc.{Arc}
+use Rattle.solver.specs.declared.arcs.Arcs.{Arcs}
 use Rattle.solver.specs.Arcs.{MeetsArc, SameGap, arc_at, Gathered}
 use Rattle.solver.specs.Rising.{time_at, Keeps, Rising}
 use Rattle.solver.specs.Falling.{Fallen}
@@ -49,28 +50,28 @@ module _ (ls₀ : List ℕ) (T events : ℕ) (first : time_at ls₀ 0 ≡ 0) (du
       (λ (other : e ≡ 0 → ⊥). let y = due e (omega arith) h in omega arith)
       (cases_eq e 0)
 
-module _ (m : Meaning) (arcs : List Arc) (count events : ℕ) (all : Gathered m arcs count) (same-events : m.events ≡ events) where
-  pub schedule_keeps : (t : ℕ → ℕ) → Schedule m t → Keeps arcs count events t
-  schedule_keeps t keeps k h = let of = all.each k h in to_arc m.events t (arc_at arcs k) of.gap of.same (keeps.meets (arc_at arcs k).place of.gap of.there)
+module _ (m : Meaning) (arcs : Arcs) (all : Gathered m arcs.arcs arcs.count) (same-events : m.events ≡ arcs.events) where
+  pub schedule_keeps : (t : ℕ → ℕ) → Schedule m t → Keeps arcs t
+  schedule_keeps t keeps k h = let of = all.each k h in to_arc m.events t (arc_at arcs.arcs k) of.gap of.same (keeps.meets (arc_at arcs.arcs k).place of.gap of.there)
 
-  pub keeps_schedule : (t : ℕ → ℕ) → t 0 ≡ 0 → Keeps arcs count events t → Schedule m t
+  pub keeps_schedule : (t : ℕ → ℕ) → t 0 ≡ 0 → Keeps arcs t → Schedule m t
   keeps_schedule t first keeps = record {
     begins = first;
-    meets = λ p g at. let found = all.every p g at in to_gap m.events t (arc_at arcs found.index) g found.same (keeps found.index found.low);
+    meets = λ p g at. let found = all.every p g at in to_gap m.events t (arc_at arcs.arcs found.index) g found.same (keeps found.index found.low);
   }
 
   -- earliest times at rest, and latest times that fell from their length
-  pub rest_sound : (t par : ℕ → ℕ) → Rising arcs count events (λ _. 0) t par → t 0 ≡ 0 → Keeps arcs count events t
-      → (ls₀ ls : List ℕ) → Fallen arcs count events ls₀ ls → (T : ℕ) → T ≡ greatest t events → time_at ls₀ 0 ≡ 0 → ((e : ℕ) → 1 ≤ e → e ≤ events → time_at ls₀ e ≡ T)
+  pub rest_sound : (t par : ℕ → ℕ) → Rising arcs (λ _. 0) t par → t 0 ≡ 0 → Keeps arcs t
+      → (ls₀ ls : List ℕ) → Fallen arcs ls₀ ls → (T : ℕ) → T ≡ greatest t arcs.events → time_at ls₀ 0 ≡ 0 → ((e : ℕ) → 1 ≤ e → e ≤ arcs.events → time_at ls₀ e ≡ T)
       → Sound m t (time_at ls) T
   rest_sound t par rising first keeps ls₀ ls fallen T is zero-first due =
-      let bounded = under_due ls₀ T events zero-first due in
+      let bounded = under_due ls₀ T arcs.events zero-first due in
       let over = fallen.most t keeps (bounded t first (omega arith)) in
-      let low = greatest_grows t (time_at ls) events over in
-      let high = greatest_least (time_at ls) events T (λ e h. let x = fallen.falls e in let y = due_low ls₀ T events zero-first due e h in omega arith) in
+      let low = greatest_grows t (time_at ls) arcs.events over in
+      let high = greatest_least (time_at ls) arcs.events T (λ e h. let x = fallen.falls e in let y = due_low ls₀ T arcs.events zero-first due e h in omega arith) in
       let late-first : time_at ls 0 ≡ 0 = (let x = fallen.falls 0 in omega arith) in
       let at = λ (s : ℕ → ℕ). ap (greatest s) same-events in
       windows_sound m t (time_at ls) T (keeps_schedule t first keeps) (keeps_schedule (time_at ls) late-first fallen.keeps)
-      (at t ∙ sym is) (at (time_at ls) ∙ (let x : greatest (time_at ls) events ≡ T = omega arith in x))
+      (at t ∙ sym is) (at (time_at ls) ∙ (let x : greatest (time_at ls) arcs.events ≡ T = omega arith in x))
       (λ s sched e h. rising.least s (λ d k. omega arith) (schedule_keeps s sched) e (omega arith))
       (λ s sched long e h. fallen.most s (schedule_keeps s sched) (bounded s sched.begins (let x = at s in omega arith)) e (omega arith))

@@ -4,23 +4,24 @@
 use Rattle.std.specs.Prelude.{◌≡◌, ℕ, ◌≤◌, List, Ok, Err, Result}
 use Rattle.network.specs.Schedules.{greatest}
 use Rattle.solver.specs.declared.arc.Arc.{Arc}
+use Rattle.solver.specs.declared.arcs.Arcs.{Arcs}
 use Rattle.solver.specs.Rising.{time_at, Keeps, Rising}
 use Rattle.solver.specs.RingSteps.{Ends}
 
-module _ (arcs : List Arc) (count events : ℕ) (ts₀ ps₀ ts ps : List ℕ) where
+module _ (arcs : Arcs) (ts₀ ps₀ ts ps : List ℕ) where
   abbrev pub Carries : Type 0
-  Carries = (start : ℕ → ℕ) → Rising arcs count events start (time_at ts₀) (time_at ps₀) → Rising arcs count events start (time_at ts) (time_at ps)
+  Carries = (start : ℕ → ℕ) → Rising arcs start (time_at ts₀) (time_at ps₀) → Rising arcs start (time_at ts) (time_at ps)
 
   pub record AtRest : Type 0 where
     pub carries : Carries
     pub first : time_at ts 0 ≡ 0
-    pub bound : greatest (time_at ts) events ≤ 204800000
-    pub keeps : Keeps arcs count events (time_at ts)
+    pub bound : greatest (time_at ts) arcs.events ≤ 204800000
+    pub keeps : Keeps arcs (time_at ts)
 
   pub record Ringed (r : ℕ) : Type 0 where
     pub carries : Carries
-    pub inside : r ≤ events
-    pub ends : Ends arcs count events (time_at ts) (time_at ps) r
+    pub inside : r ≤ arcs.events
+    pub ends : Ends arcs (time_at ts) (time_at ps) r
 
   abbrev pub Outcome : Result (Unit {0}) ℕ → Type 0
   Outcome (Ok _) = AtRest

@@ -7,6 +7,7 @@
 use Rattle.std.specs.Prelude.{◌≡◌, ℕ, zero, suc, ◌+◌, ◌≤◌, ◌⊎◌, List, [], ◌∷◌, pos, ◌-ℤ◌, slice_index_or}
 use Rattle.network.specs.declared.gap.Step.{Step}
 use Rattle.solver.specs.declared.arc.Arc.{Arc}
+use Rattle.solver.specs.declared.arcs.Arcs.{Arcs}
 use Rattle.solver.specs.declared.ring.Ring.{Ring}
 use Rattle.solver.specs.Walks.{Rooted, RingAt}
 
@@ -23,5 +24,5 @@ last_first xs (suc n) = slice_index_or xs n (floor_to 0) ∷ last_first xs n
 abbrev pub ring_steps : Ring → List Step
 ring_steps r = last_first r.steps r.count
 
-abbrev pub Ends : List Arc → ℕ → ℕ → (ℕ → ℕ) → (ℕ → ℕ) → ℕ → Type 0
-Ends arcs count events t par r = RingAt arcs count events t par r ⊎ ((r ≡ 0) × ((1 ≤ t 0) × Rooted arcs count events t par 102398976 (events + 1) 0))
+abbrev pub Ends : Arcs → (ℕ → ℕ) → (ℕ → ℕ) → ℕ → Type 0
+Ends arcs t par r = RingAt arcs t par r ⊎ ((r ≡ 0) × ((1 ≤ t 0) × Rooted arcs t par 102398976 (arcs.events + 1) 0))

@@ -7,15 +7,16 @@
 --     RingAt r            steps lead from r to r
 use Rattle.std.specs.Prelude.{◌≡◌, ℕ, zero, suc, ◌+◌, ◌*◌, ◌<◌, ◌≤◌, min, List, Some, None, Option}
 use Rattle.solver.specs.declared.arc.Arc.{Arc}
+use Rattle.solver.specs.declared.arcs.Arcs.{Arcs}
 use Rattle.solver.specs.Rising.{time_at, parent_of, Rising}
 
 unfoldable pub tally : (ℕ → ℕ) → ℕ → ℕ
 tally f zero = 0
 tally f (suc n) = min 1 (f n) + tally f n
 
-module _ (arcs : List Arc) (count events : ℕ) (t par : ℕ → ℕ) where
+module _ (arcs : Arcs) (t par : ℕ → ℕ) where
   abbrev pub before : ℕ → ℕ
-  before e = (parent_of arcs count events par e).left
+  before e = (parent_of arcs par e).left
 
   unfoldable pub ups : ℕ → ℕ → ℕ
   ups zero e = e
@@ -36,31 +37,31 @@ module _ (arcs : List Arc) (count events : ℕ) (t par : ℕ → ℕ) where
     pub early : t x ≤ t at + 99999 * steps
 
   pub record RingAt (r : ℕ) : Type 0 where
-    pub inside : r ≤ events
+    pub inside : r ≤ arcs.events
     pub steps : ℕ
     pub some : 1 ≤ steps
-    pub few : steps ≤ events + 1
+    pub few : steps ≤ arcs.events + 1
     pub back : ups steps r ≡ r
     pub raised : (i : ℕ) → i < steps → 1 ≤ par (ups i r)
 
   -- the events marked so far lead to events that were never raised
   abbrev pub AllRooted : ℕ → List ℕ → Type 0
-  AllRooted S marks = (x : ℕ) → x ≤ events → 1 ≤ time_at marks x → Rooted S (tally (time_at marks) (events + 1)) x
+  AllRooted S marks = (x : ℕ) → x ≤ arcs.events → 1 ≤ time_at marks x → Rooted S (tally (time_at marks) (arcs.events + 1)) x
 
 -- times that have risen from some table of at most 102,398,976 days
-pub record Risen (arcs : List Arc) (count events : ℕ) (ts ps : List ℕ) : Type 0 where
+pub record Risen (arcs : Arcs) (ts ps : List ℕ) : Type 0 where
   pub start : ℕ → ℕ
-  pub starts : (e : ℕ) → e ≤ events → start e ≤ 102398976
-  pub rising : Rising arcs count events start (time_at ts) (time_at ps)
+  pub starts : (e : ℕ) → e ≤ arcs.events → start e ≤ 102398976
+  pub rising : Rising arcs start (time_at ts) (time_at ps)
 
 -- what a walk from event e has found: a ring, or that all marked events are rooted
-abbrev pub Walked : List Arc → ℕ → ℕ → List ℕ → List ℕ → List ℕ → List ℕ → ℕ → Option ℕ → Type 0
-Walked arcs count events ts ps marks₀ marks e None =
-    AllRooted arcs count events (time_at ts) (time_at ps) 102398976 marks
+abbrev pub Walked : Arcs → List ℕ → List ℕ → List ℕ → List ℕ → ℕ → Option ℕ → Type 0
+Walked arcs ts ps marks₀ marks e None =
+    AllRooted arcs (time_at ts) (time_at ps) 102398976 marks
     × ((1 ≤ time_at marks e) × (((x : ℕ) → 1 ≤ time_at marks₀ x → 1 ≤ time_at marks x) × ((x : ℕ) → time_at marks x ≤ e + 1)))
-Walked arcs count events ts ps marks₀ marks e (Some r) = RingAt arcs count events (time_at ts) (time_at ps) r
+Walked arcs ts ps marks₀ marks e (Some r) = RingAt arcs (time_at ts) (time_at ps) r
 
 -- what a look at all events has found: a ring, or that no time is far from where it rose from
-abbrev pub Looked : List Arc → ℕ → ℕ → List ℕ → List ℕ → Option ℕ → Type 0
-Looked arcs count events ts ps None = (e : ℕ) → e ≤ events → Rooted arcs count events (time_at ts) (time_at ps) 102398976 (events + 1) e
-Looked arcs count events ts ps (Some r) = RingAt arcs count events (time_at ts) (time_at ps) r
+abbrev pub Looked : Arcs → List ℕ → List ℕ → Option ℕ → Type 0
+Looked arcs ts ps None = (e : ℕ) → e ≤ arcs.events → Rooted arcs (time_at ts) (time_at ps) 102398976 (arcs.events + 1) e
+Looked arcs ts ps (Some r) = RingAt arcs (time_at ts) (time_at ps) r

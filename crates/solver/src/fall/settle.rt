@@ -12,9 +12,9 @@ use crate::order::{Order, owed_after};
 impl Fall {
     /// Lowers times until every arc is met. The order is only a hint: the sweep that changes nothing goes over every arc.
     pub(crate) fn settle(&mut self, arcs: &Arcs, order: &Order)
-        requires above { Above arcs.now.arcs arcs.now.count arcs.now.events (time_at self.old.times) }
+        requires above { Above arcs.now (time_at self.old.times) }
         requires bound { greatest (time_at self.old.times) arcs.now.events ≤ 3000000000 }
-        ensures { Fallen arcs.now.arcs arcs.now.count arcs.now.events self.old.times self.new.times }
+        ensures { Fallen arcs.now self.old.times self.new.times }
     {
         let mut passes = arcs.events + 1;
         loop {

@@ -31,9 +31,9 @@ impl Fall {
 
     /// Goes over the arcs against a hinted order.
     pub(crate) fn pull(&mut self, arcs: &Arcs, hinted: &[u16])
-        requires above { Above arcs.now.arcs arcs.now.count arcs.now.events (time_at self.old.times) }
+        requires above { Above arcs.now (time_at self.old.times) }
         requires bound { greatest (time_at self.old.times) arcs.now.events ≤ 3000000000 }
-        ensures { Sank arcs.now.arcs arcs.now.count arcs.now.events self.old.times self.new.times }
+        ensures { Sank arcs.now self.old.times self.new.times }
     {
         for hint in hinted.iter().rev() {
             if let Some(arc) = arcs.get(usize::from(*hint)) {
@@ -44,9 +44,9 @@ impl Fall {
 
     /// Goes over every arc once, and says whether it lowered an event.
     pub(crate) fn sweep(&mut self, arcs: &Arcs) -> bool
-        requires above { Above arcs.now.arcs arcs.now.count arcs.now.events (time_at self.old.times) }
+        requires above { Above arcs.now (time_at self.old.times) }
         requires bound { greatest (time_at self.old.times) arcs.now.events ≤ 3000000000 }
-        ensures { Fell arcs.now.arcs arcs.now.count arcs.now.events self.old.times self.new.times arcs.now.count result }
+        ensures { Fell arcs.now self.old.times self.new.times arcs.now.count result }
     {
         let mut changed = false;
         for arc in arcs.all() {

@@ -46,9 +46,9 @@ impl Rise {
     /// raised, which the floor reaches.
     #[inline(never)]
     pub(crate) fn ring_from(&self, arcs: &Arcs, r: usize) -> Ring
-        requires rising { Rising arcs.now.arcs arcs.now.count arcs.now.events (λ _. 0) (time_at self.now.times) (time_at self.now.parents) }
+        requires rising { Rising arcs.now (λ _. 0) (time_at self.now.times) (time_at self.now.parents) }
         requires inside { r ≤ arcs.now.events }
-        requires ends { Ends arcs.now.arcs arcs.now.count arcs.now.events (time_at self.now.times) (time_at self.now.parents) r }
+        requires ends { Ends arcs.now (time_at self.now.times) (time_at self.now.parents) r }
         ensures { (m : Meaning) → Gathered m arcs.now.arcs arcs.now.count → m.events ≡ arcs.now.events → Contradictory m (ring_steps result) }
     {
         let mut steps = [floor_to(0); 1024];

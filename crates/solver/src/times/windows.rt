@@ -25,10 +25,10 @@ fn due(length: u32) -> [u32; 1024]
 
 /// The windows of the events, from earliest times at rest.
 pub(crate) fn windows(arcs: &Arcs, order: &Order, rise: &Rise) -> Times
-    requires rising { Rising arcs.now.arcs arcs.now.count arcs.now.events (λ _. 0) (time_at rise.now.times) (time_at rise.now.parents) }
+    requires rising { Rising arcs.now (λ _. 0) (time_at rise.now.times) (time_at rise.now.parents) }
     requires first { time_at rise.now.times 0 ≡ 0 }
     requires bound { greatest (time_at rise.now.times) arcs.now.events ≤ 204800000 }
-    requires keeps { Keeps arcs.now.arcs arcs.now.count arcs.now.events (time_at rise.now.times) }
+    requires keeps { Keeps arcs.now (time_at rise.now.times) }
     ensures events { result.events ≡ arcs.now.events }
     ensures sound { (m : Meaning) → Gathered m arcs.now.arcs arcs.now.count → m.events ≡ arcs.now.events → Sound m (time_at result.earliest) (time_at result.latest) result.length }
 {

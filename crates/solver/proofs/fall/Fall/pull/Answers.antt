@@ -1,8 +1,8 @@
 use Rattle.std.proofs.Common.{subst, arith}
 use Rattle.network.proofs.Lengths.{greatest_bounds}
 use Rattle.solver.specs.Arcs.{MeetsArc}
-use Rattle.solver.specs.Rising.{time_at, LowArc}
-use Rattle.solver.proofs.Lows.{lows}
+use Rattle.solver.specs.Rising.{time_at}
+use Rattle.solver.proofs.Lows.{low_at}
 use Rattle.solver.proofs.Lowering.{sank_none, sank_one, sank_join}
 use Rattle.solver.proofs.fall.Fall.pull.Goals as goal
 
@@ -12,7 +12,7 @@ lower-requires c =
     let k = c.from.result in
     let found = c.in-Some-get.ensures in
     let a = c.in-Some-get.arc in
-    let low : LowArc arcs.events a = subst (LowArc arcs.events) found.1 (lows arcs k found.0) in
+    let low = low_at arcs k found.0 a found.1 in
     let above = c.requires.above in
     let x = greatest_bounds (time_at c.args.self.now.times) arcs.events a.left low.0 in
     let y = greatest_bounds (time_at c.args.self.now.times) arcs.events a.reached low.1.0 in
@@ -25,12 +25,12 @@ lower-requires c =
     record { left = omega arith; reached = omega arith; up = omega arith; down = omega arith; room = omega arith }
 
 pub loop-hint-init : goal.loop-hint-init
-loop-hint-init c = sank_none c.args.arcs.now.arcs c.args.arcs.now.count c.args.arcs.now.events c.args.self.now.times
+loop-hint-init c = sank_none c.args.arcs.now c.args.self.now.times
 
 pub loop-hint-preserved-in-Some-get : goal.loop-hint-preserved-in-Some-get
 loop-hint-preserved-in-Some-get c =
     let arcs = c.args.arcs.now in
     let found = c.in-Some-get.ensures in
-    sank_join arcs.arcs arcs.count arcs.events c.args.self.now.times c.loop-hint.self.times c.lower.new.self.times c.loop-hint.invariant
-    (sank_one arcs.arcs arcs.count arcs.events c.loop-hint.self.times c.from.result found.0 c.loop-hint.self.timed arcs.small c.in-Some-get.arc found.1 (subst (LowArc arcs.events) found.1 (lows arcs c.from.result found.0))
+    sank_join arcs c.args.self.now.times c.loop-hint.self.times c.lower.new.self.times c.loop-hint.invariant
+    (sank_one arcs c.loop-hint.self.times c.from.result found.0 c.loop-hint.self.timed c.in-Some-get.arc found.1
     c.lower.result c.lower.new.self.times c.lower.ensures.told c.lower.ensures.times)

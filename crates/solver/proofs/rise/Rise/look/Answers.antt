@@ -8,14 +8,14 @@ use Rattle.solver.proofs.rise.Rise.look.Goals.{In_default}
 pub loop-e-init : goal.loop-e-init
 loop-e-init c =
     let arcs = c.args.arcs.now in
-    seen_none arcs.arcs arcs.count arcs.events (time_at c.args.self.now.times) (time_at c.args.self.now.parents) 102398976 (replicate 1024 0) refl (zeros 1024)
+    seen_none arcs (time_at c.args.self.now.times) (time_at c.args.self.now.parents) 102398976 (replicate 1024 0) refl (zeros 1024)
 
 -- one event more is seen
-seen : (c : In_default) → Seen c.args.arcs.now.arcs c.args.arcs.now.count c.args.arcs.now.events (time_at c.args.self.now.times) (time_at c.args.self.now.parents) 102398976 c.walk.new.marks (c.loop-e.e + 1)
+seen : (c : In_default) → Seen c.args.arcs.now (time_at c.args.self.now.times) (time_at c.args.self.now.parents) 102398976 c.walk.new.marks (c.loop-e.e + 1)
 seen c =
     let arcs = c.args.arcs.now in
     let found = c.in_default.ensures.found in
-    seen_more arcs.arcs arcs.count arcs.events (time_at c.args.self.now.times) (time_at c.args.self.now.parents) 102398976 c.loop-e.marks c.walk.new.marks c.loop-e.e c.loop-e.invariant c.walk.array_long found.0 found.1.0 found.1.1.0 found.1.1.1
+    seen_more arcs (time_at c.args.self.now.times) (time_at c.args.self.now.parents) 102398976 c.loop-e.marks c.walk.new.marks c.loop-e.e c.loop-e.invariant c.walk.array_long found.0 found.1.0 found.1.1.0 found.1.1.1
 
 pub loop-e-preserved : goal.loop-e-preserved
 loop-e-preserved c = seen (goal.at.loop-e-preserved c).In_default
@@ -23,4 +23,4 @@ loop-e-preserved c = seen (goal.at.loop-e-preserved c).In_default
 pub returns-in_default : goal.returns-in_default
 returns-in_default c =
     let arcs = c.args.arcs.now in
-    seen_all arcs.arcs arcs.count arcs.events (time_at c.args.self.now.times) (time_at c.args.self.now.parents) 102398976 c.walk.new.marks (c.loop-e.e + 1) (seen (goal.at.returns-in_default c).In_default) (omega arith)
+    seen_all arcs (time_at c.args.self.now.times) (time_at c.args.self.now.parents) 102398976 c.walk.new.marks (c.loop-e.e + 1) (seen (goal.at.returns-in_default c).In_default) (omega arith)

@@ -3,4 +3,4 @@ use Rattle.solver.proofs.Walking.{Seen}
 use Rattle.solver.proofs.rise.Rise.look.Given as goal
 
 abbrev pub invariant-loop-e : goal.invariant-loop-e
-invariant-loop-e l = Seen l.arcs.arcs l.arcs.count l.arcs.events (time_at l.self.times) (time_at l.self.parents) 102398976 l.marks l.e
+invariant-loop-e l = Seen l.arcs (time_at l.self.times) (time_at l.self.parents) 102398976 l.marks l.e

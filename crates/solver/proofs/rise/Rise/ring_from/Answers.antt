@@ -13,7 +13,7 @@ pub loop-i-init : goal.loop-i-init
 loop-i-init c =
     let arcs = c.args.arcs.now in
     let now = c.args.self.now in
-    climb_none arcs.arcs arcs.count arcs.events (lows arcs) (λ _. 0) (time_at now.times) (time_at now.parents) c.requires.rising 0 (λ e h. omega arith) c.args.r (replicate 1024 c.floor_to-steps.result) refl c.requires.inside
+    climb_none arcs (λ _. 0) (time_at now.times) (time_at now.parents) c.requires.rising 0 (λ e h. omega arith) c.args.r (replicate 1024 c.floor_to-steps.result) refl c.requires.inside
 
 pub returns-then-parent-eq0 : goal.returns-then-parent-eq0
 returns-then-parent-eq0 c m all same =
@@ -28,8 +28,8 @@ returns-then-parent-eq0 c m all same =
     let none = c.if-parent-eq0.true in
     subst (λ s. Contradictory m (last_first (set c.loop-i.steps i s) (i + 1))) (sym c.floor_to.ensures)
     (⊎_elim
-    (λ (ring : RingAt arcs.arcs arcs.count arcs.events t par c.args.r). absurd (ring_raised arcs.arcs arcs.count arcs.events (lows arcs) (λ _. 0) t par c.requires.rising 0 (λ e h. omega arith) c.args.r c.loop-i.steps i c.loop-i.at c.loop-i.invariant ring few none))
-    (λ (lifted : (c.args.r ≡ 0) × ((1 ≤ t 0) × Rooted arcs.arcs arcs.count arcs.events t par 102398976 (arcs.events + 1) 0)). ring_floored arcs.arcs arcs.count arcs.events (lows arcs) (λ _. 0) t par c.requires.rising 0 (λ e h. omega arith) c.args.r c.loop-i.steps i c.loop-i.at c.loop-i.invariant room none lifted.0 (λ e. refl) lifted.1.0 few m all same)
+    (λ (ring : RingAt arcs t par c.args.r). absurd (ring_raised arcs (λ _. 0) t par c.requires.rising 0 (λ e h. omega arith) c.args.r c.loop-i.steps i c.loop-i.at c.loop-i.invariant ring few none))
+    (λ (lifted : (c.args.r ≡ 0) × ((1 ≤ t 0) × Rooted arcs t par 102398976 (arcs.events + 1) 0)). ring_floored arcs (λ _. 0) t par c.requires.rising 0 (λ e h. omega arith) c.args.r c.loop-i.steps i c.loop-i.at c.loop-i.invariant room none lifted.0 (λ e. refl) lifted.1.0 few m all same)
     c.requires.ends)
 
 pub returns-then-at-r : goal.returns-then-at-r
@@ -42,11 +42,11 @@ returns-then-at-r c m all same =
     let room : i < 1024 = omega arith in
     let some : 1 ≤ time_at now.parents c.loop-i.at = omega arith in
     let is = c.step_of.ensures ∙ ap (λ p. step_of (arc_at arcs.arcs (p - 1))) c.from.ensures in
-    let next : c.from-at.result ≡ (parent_of arcs.arcs arcs.count arcs.events (time_at now.parents) c.loop-i.at).left = c.from-at.ensures ∙ ap (λ p. (arc_at arcs.arcs (p - 1)).left) c.from.ensures in
-    ring_closed arcs.arcs arcs.count arcs.events (lows arcs) (λ _. 0) (time_at now.times) (time_at now.parents) c.requires.rising 0 (λ e h. omega arith) c.args.r c.loop-i.steps i c.loop-i.at c.loop-i.invariant room some c.step_of.result is (sym next ∙ c.if-at-r.true) few m all same
+    let next : c.from-at.result ≡ (parent_of arcs (time_at now.parents) c.loop-i.at).left = c.from-at.ensures ∙ ap (λ p. (arc_at arcs.arcs (p - 1)).left) c.from.ensures in
+    ring_closed arcs (λ _. 0) (time_at now.times) (time_at now.parents) c.requires.rising 0 (λ e h. omega arith) c.args.r c.loop-i.steps i c.loop-i.at c.loop-i.invariant room some c.step_of.result is (sym next ∙ c.if-at-r.true) few m all same
 
 -- the climb goes on
-further : (c : Else-at-r) → Climb c.args.arcs.now.arcs c.args.arcs.now.count c.args.arcs.now.events (time_at c.args.self.now.times) (time_at c.args.self.now.parents) c.args.r (set c.loop-i.steps c.loop-i.i c.step_of.result) (c.loop-i.i + 1) c.from-at.result
+further : (c : Else-at-r) → Climb c.args.arcs.now (time_at c.args.self.now.times) (time_at c.args.self.now.parents) c.args.r (set c.loop-i.steps c.loop-i.i c.step_of.result) (c.loop-i.i + 1) c.from-at.result
 further c =
     let arcs = c.args.arcs.now in
     let now = c.args.self.now in
@@ -56,9 +56,9 @@ further c =
     let room : i < 1024 = omega arith in
     let some : 1 ≤ time_at now.parents c.loop-i.at = omega arith in
     let is = c.step_of.ensures ∙ ap (λ p. step_of (arc_at arcs.arcs (p - 1))) c.from.ensures in
-    let next : c.from-at.result ≡ (parent_of arcs.arcs arcs.count arcs.events (time_at now.parents) c.loop-i.at).left = c.from-at.ensures ∙ ap (λ p. (arc_at arcs.arcs (p - 1)).left) c.from.ensures in
-    subst (Climb arcs.arcs arcs.count arcs.events (time_at now.times) (time_at now.parents) c.args.r (set c.loop-i.steps i c.step_of.result) (i + 1)) (sym next)
-    (climb_more arcs.arcs arcs.count arcs.events (lows arcs) (λ _. 0) (time_at now.times) (time_at now.parents) c.requires.rising 0 (λ e h. omega arith) c.args.r c.loop-i.steps i c.loop-i.at c.loop-i.invariant room some c.step_of.result is (λ back. c.if-at-r.false (next ∙ back)))
+    let next : c.from-at.result ≡ (parent_of arcs (time_at now.parents) c.loop-i.at).left = c.from-at.ensures ∙ ap (λ p. (arc_at arcs.arcs (p - 1)).left) c.from.ensures in
+    subst (Climb arcs (time_at now.times) (time_at now.parents) c.args.r (set c.loop-i.steps i c.step_of.result) (i + 1)) (sym next)
+    (climb_more arcs (λ _. 0) (time_at now.times) (time_at now.parents) c.requires.rising 0 (λ e h. omega arith) c.args.r c.loop-i.steps i c.loop-i.at c.loop-i.invariant room some c.step_of.result is (λ back. c.if-at-r.false (next ∙ back)))
 
 pub loop-i-preserved : goal.loop-i-preserved
 loop-i-preserved c = further (goal.at.loop-i-preserved c).Else-at-r
@@ -75,7 +75,7 @@ unreachable-requires c =
           let room : c.loop-i.i < 1024 = omega arith in
           let some : 1 ≤ par c.loop-i.at = omega (arith, w.if-parent-eq0.false) in
           let is = w.step_of.ensures ∙ ap (λ p. step_of (arc_at arcs.arcs (p - 1))) w.from.ensures in
-          let next : w.from-at.result ≡ (parent_of arcs.arcs arcs.count arcs.events par c.loop-i.at).left = w.from-at.ensures ∙ ap (λ p. (arc_at arcs.arcs (p - 1)).left) w.from.ensures in
-          let on = climb_more arcs.arcs arcs.count arcs.events (lows arcs) (λ _. 0) (time_at now.times) par c.requires.rising 0 (λ e h. omega arith) c.args.r c.loop-i.steps c.loop-i.i c.loop-i.at c.loop-i.invariant room some w.step_of.result is (λ back. w.if-at-r.false (next ∙ back)) in
-          climb_ends arcs.arcs arcs.count arcs.events (lows arcs) (λ _. 0) (time_at now.times) par c.requires.rising 0 (λ e h. omega arith) c.args.r _ _ _ on c.requires.ends (omega arith)
+          let next : w.from-at.result ≡ (parent_of arcs par c.loop-i.at).left = w.from-at.ensures ∙ ap (λ p. (arc_at arcs.arcs (p - 1)).left) w.from.ensures in
+          let on = climb_more arcs (λ _. 0) (time_at now.times) par c.requires.rising 0 (λ e h. omega arith) c.args.r c.loop-i.steps c.loop-i.i c.loop-i.at c.loop-i.invariant room some w.step_of.result is (λ back. w.if-at-r.false (next ∙ back)) in
+          climb_ends arcs (λ _. 0) (time_at now.times) par c.requires.rising 0 (λ e h. omega arith) c.args.r _ _ _ on c.requires.ends (omega arith)
     ]

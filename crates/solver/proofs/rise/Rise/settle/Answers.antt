@@ -22,7 +22,7 @@ loop-r-preserved c =
     let arcs = c.args.arcs.now in
     let now = c.sweep-changed.new.self in (
       (λ start was. c.sweep-changed.ensures.rising start (c.push.ensures.rising start (c.loop-r.invariant.0 start was))),
-      all_early arcs.arcs arcs.count arcs.events (time_at now.times) (time_at now.parents) arcs.small c.in_default.ensures,
+      all_early arcs (time_at now.times) (time_at now.parents) c.in_default.ensures,
     )
 
 pub loop-r-smaller : goal.loop-r-smaller
@@ -32,7 +32,7 @@ loop-r-smaller c =
     let more = c.if-not-changed.ensures.told in
     slack_falls 204800000 (time_at c.loop-r.self.times) (time_at now.times) arcs.events
     (λ e h. let x = c.push.ensures.grows e in let y = c.sweep-changed.ensures.grows e in omega arith)
-    (early arcs.arcs arcs.count arcs.events (time_at now.times) (time_at now.parents) arcs.small c.in_default.ensures)
+    (early arcs (time_at now.times) (time_at now.parents) c.in_default.ensures)
     more.0 more.1 (let x = c.push.ensures.grows more.0 in omega (arith, more.2))
 
 pub returns-then-not-changed : goal.returns-then-not-changed
@@ -42,7 +42,7 @@ returns-then-not-changed c =
     record {
       carries = λ start was. c.sweep-changed.ensures.rising start (c.push.ensures.rising start (c.loop-r.invariant.0 start was));
       first = omega arith;
-      bound = all_early arcs.arcs arcs.count arcs.events (time_at now.times) (time_at now.parents) arcs.small c.in_default.ensures;
+      bound = all_early arcs (time_at now.times) (time_at now.parents) c.in_default.ensures;
       keeps = c.if-not-changed.ensures.told.2;
     }
 

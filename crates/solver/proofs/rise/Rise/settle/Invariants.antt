@@ -7,7 +7,7 @@ use Rattle.solver.proofs.rise.Rise.settle.Given as goal
 
 abbrev pub invariant-loop-r : goal.invariant-loop-r
 invariant-loop-r l =
-    Carries l.arcs.arcs l.arcs.count l.arcs.events l.initial.self.times l.initial.self.parents l.self.times l.self.parents
+    Carries l.arcs l.initial.self.times l.initial.self.parents l.self.times l.self.parents
     × (greatest (time_at l.self.times) l.arcs.events ≤ 204800000)
 
 -- how far the times can still rise

@@ -1,8 +1,8 @@
 use Rattle.std.proofs.Common.{◌≡◌, ◌<◌, sym, subst, arith}
 use Rattle.network.proofs.Lengths.{greatest_bounds}
 use Rattle.solver.specs.Arcs.{arc_at}
-use Rattle.solver.specs.Rising.{time_at, LowArc, Swept}
-use Rattle.solver.proofs.Lows.{lows}
+use Rattle.solver.specs.Rising.{time_at, Swept}
+use Rattle.solver.proofs.Lows.{low_at}
 use Rattle.solver.proofs.Sweeping.{swept_none, swept_next}
 use Rattle.solver.proofs.rise.Rise.sweep.Goals as goal
 
@@ -13,7 +13,7 @@ raise-changed-requires c =
     let all = c.all-arc-items in
     let a = arc_at all.result.now k in
     let inside : k < arcs.count = omega arith in
-    let low : LowArc arcs.events a = subst (LowArc arcs.events) (sym (all.ensures.each k inside)) (lows arcs k inside) in
+    let low = low_at arcs k inside a (sym (all.ensures.each k inside)) in
     let x = greatest_bounds (time_at c.loop-k.self.times) arcs.events a.left low.0 in
     let y = greatest_bounds (time_at c.loop-k.self.times) arcs.events a.reached low.1.0 in
     let few = arcs.few in
@@ -29,14 +29,14 @@ loop-k-preserved c =
     let inside : k < arcs.count = omega arith in
     let is = sym (all.ensures.each k inside) in
     let told = c.raise-changed.ensures in
-    swept_next arcs.arcs arcs.count arcs.events c.args.self.now.times c.args.self.now.parents c.loop-k.self.times c.loop-k.self.parents k c.loop-k.changed c.loop-k.invariant
-    inside c.loop-k.self.timed c.loop-k.self.tied arcs.small (arc_at all.result.now k) is (subst (LowArc arcs.events) is (lows arcs k inside))
+    swept_next arcs c.args.self.now.times c.args.self.now.parents c.loop-k.self.times c.loop-k.self.parents k c.loop-k.changed c.loop-k.invariant
+    inside c.loop-k.self.timed c.loop-k.self.tied (arc_at all.result.now k) is
     c.raise-changed.result c.raise-changed.new.self.times c.raise-changed.new.self.parents told.told told.times told.parents
 
 pub loop-k-init : goal.loop-k-init
-loop-k-init c = swept_none c.args.arcs.now.arcs c.args.arcs.now.count c.args.arcs.now.events c.args.self.now.times c.args.self.now.parents
+loop-k-init c = swept_none c.args.arcs.now c.args.self.now.times c.args.self.now.parents
 
 pub returns : goal.returns
 returns c =
     let same : c.loop-k.k ≡ c.args.arcs.now.count = omega arith in
-    subst (λ n. Swept c.args.arcs.now.arcs c.args.arcs.now.count c.args.arcs.now.events c.args.self.now.times c.args.self.now.parents c.loop-k.self.times c.loop-k.self.parents n c.loop-k.changed) same c.loop-k.invariant
+    subst (λ n. Swept c.args.arcs.now c.args.self.now.times c.args.self.now.parents c.loop-k.self.times c.loop-k.self.parents n c.loop-k.changed) same c.loop-k.invariant

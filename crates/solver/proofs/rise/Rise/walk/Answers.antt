@@ -12,7 +12,7 @@ loop-marks-init c =
     let ts = c.args.self.now.times in
     let ps = c.args.self.now.parents in
     let risen = c.requires.risen in
-    midway_none arcs.arcs arcs.count arcs.events (lows arcs) risen.start (time_at ts) (time_at ps) risen.rising 102398976 risen.starts c.args.marks.now c.args.e c.requires.inside c.requires.long c.requires.ids c.requires.rooted
+    midway_none arcs risen.start (time_at ts) (time_at ps) risen.rising 102398976 risen.starts c.args.marks.now c.args.e c.requires.inside c.requires.long c.requires.ids c.requires.rooted
 
 pub returns-then-parent-eq0 : goal.returns-then-parent-eq0
 returns-then-parent-eq0 c =
@@ -21,7 +21,7 @@ returns-then-parent-eq0 c =
     let ps = c.args.self.now.parents in
     let risen = c.requires.risen in
     record {
-      found = walked_end arcs.arcs arcs.count arcs.events (lows arcs) risen.start (time_at ts) (time_at ps) risen.rising 102398976 risen.starts c.args.marks.now c.loop-marks.marks c.args.e c.loop-marks.at arcs.small c.loop-marks.invariant c.loop-marks-test.true c.if-parent-eq0.true;
+      found = walked_end arcs risen.start (time_at ts) (time_at ps) risen.rising 102398976 risen.starts c.args.marks.now c.loop-marks.marks c.args.e c.loop-marks.at c.loop-marks.invariant c.loop-marks-test.true c.if-parent-eq0.true;
       size = length-set c.loop-marks.marks c.loop-marks.at (c.args.e + 1) ∙ c.loop-marks.invariant.long;
     }
 
@@ -31,8 +31,8 @@ loop-marks-smaller c =
     let ts = c.args.self.now.times in
     let ps = c.args.self.now.parents in
     let risen = c.requires.risen in
-    let more = one_more arcs.arcs arcs.count arcs.events (lows arcs) risen.start (time_at ts) (time_at ps) risen.rising 102398976 risen.starts c.args.marks.now c.loop-marks.marks c.args.e c.loop-marks.at arcs.small c.loop-marks.invariant c.loop-marks-test.true in
-    let some = room arcs.arcs arcs.count arcs.events (lows arcs) risen.start (time_at ts) (time_at ps) risen.rising 102398976 risen.starts c.args.marks.now c.loop-marks.marks c.args.e c.loop-marks.at arcs.small c.loop-marks.invariant c.loop-marks-test.true in
+    let more = one_more arcs risen.start (time_at ts) (time_at ps) risen.rising 102398976 risen.starts c.args.marks.now c.loop-marks.marks c.args.e c.loop-marks.at c.loop-marks.invariant c.loop-marks-test.true in
+    let some = room arcs risen.start (time_at ts) (time_at ps) risen.rising 102398976 risen.starts c.args.marks.now c.loop-marks.marks c.args.e c.loop-marks.at c.loop-marks.invariant c.loop-marks-test.true in
     omega arith
 
 pub loop-marks-preserved : goal.loop-marks-preserved
@@ -42,9 +42,9 @@ loop-marks-preserved c =
     let ps = c.args.self.now.parents in
     let risen = c.requires.risen in
     let some : 1 ≤ time_at ps c.loop-marks.at = omega arith in
-    let next : c.from-at.result ≡ (parent_of arcs.arcs arcs.count arcs.events (time_at ps) c.loop-marks.at).left = c.from-at.ensures ∙ ap (λ p. (arc_at arcs.arcs (p - 1)).left) c.from.ensures in
-    subst (Midway arcs.arcs arcs.count arcs.events (time_at ts) (time_at ps) 102398976 c.args.marks.now (set c.loop-marks.marks c.loop-marks.at (c.args.e + 1)) c.args.e) (sym next)
-    (midway_next arcs.arcs arcs.count arcs.events (lows arcs) risen.start (time_at ts) (time_at ps) risen.rising 102398976 risen.starts c.args.marks.now c.loop-marks.marks c.args.e c.loop-marks.at arcs.small c.loop-marks.invariant c.loop-marks-test.true some)
+    let next : c.from-at.result ≡ (parent_of arcs (time_at ps) c.loop-marks.at).left = c.from-at.ensures ∙ ap (λ p. (arc_at arcs.arcs (p - 1)).left) c.from.ensures in
+    subst (Midway arcs (time_at ts) (time_at ps) 102398976 c.args.marks.now (set c.loop-marks.marks c.loop-marks.at (c.args.e + 1)) c.args.e) (sym next)
+    (midway_next arcs risen.start (time_at ts) (time_at ps) risen.rising 102398976 risen.starts c.args.marks.now c.loop-marks.marks c.args.e c.loop-marks.at c.loop-marks.invariant c.loop-marks-test.true some)
 
 pub returns-then-marks-at : goal.returns-then-marks-at
 returns-then-marks-at c =
@@ -52,7 +52,7 @@ returns-then-marks-at c =
     let ts = c.args.self.now.times in
     let ps = c.args.self.now.parents in
     let risen = c.requires.risen in
-    record { found = ring_found arcs.arcs arcs.count arcs.events (lows arcs) risen.start (time_at ts) (time_at ps) risen.rising 102398976 risen.starts c.args.marks.now c.loop-marks.marks c.args.e c.loop-marks.at c.loop-marks.invariant (omega arith) c.if-marks-at.true; size = c.loop-marks.invariant.long }
+    record { found = ring_found arcs risen.start (time_at ts) (time_at ps) risen.rising 102398976 risen.starts c.args.marks.now c.loop-marks.marks c.args.e c.loop-marks.at c.loop-marks.invariant (omega arith) c.if-marks-at.true; size = c.loop-marks.invariant.long }
 
 pub returns-else-marks-at : goal.returns-else-marks-at
 returns-else-marks-at c =
@@ -60,4 +60,4 @@ returns-else-marks-at c =
     let ts = c.args.self.now.times in
     let ps = c.args.self.now.parents in
     let risen = c.requires.risen in
-    record { found = walked_joined arcs.arcs arcs.count arcs.events (lows arcs) risen.start (time_at ts) (time_at ps) risen.rising 102398976 risen.starts c.args.marks.now c.loop-marks.marks c.args.e c.loop-marks.at c.loop-marks.invariant (omega arith) c.if-marks-at.false; size = c.loop-marks.invariant.long }
+    record { found = walked_joined arcs risen.start (time_at ts) (time_at ps) risen.rising 102398976 risen.starts c.args.marks.now c.loop-marks.marks c.args.e c.loop-marks.at c.loop-marks.invariant (omega arith) c.if-marks-at.false; size = c.loop-marks.invariant.long }

@@ -5,7 +5,7 @@ use Rattle.solver.proofs.Walking.{Midway}
 use Rattle.solver.proofs.rise.Rise.walk.Given as goal
 
 abbrev pub invariant-loop-marks : goal.invariant-loop-marks
-invariant-loop-marks l = Midway l.arcs.arcs l.arcs.count l.arcs.events (time_at l.self.times) (time_at l.self.parents) 102398976 l.initial.marks l.marks l.e l.at
+invariant-loop-marks l = Midway l.arcs (time_at l.self.times) (time_at l.self.parents) 102398976 l.initial.marks l.marks l.e l.at
 
 -- the events that are not marked yet
 abbrev pub decreases-loop-marks : goal.decreases-loop-marks
