@@ -1,8 +1,8 @@
 //! Date layers: at their edges, in a pile, and over a book with little room left.
 
 use crate::cramped::{CrampedBook, Mark};
+use crate::entries::whole;
 use activity::ActivityBook;
-use activity::entry::{Activity, Entry, Running, Work};
 use book::date::{Bound, Date};
 use book::refusal::{Layer, Refusal};
 use book::traits::Book;
@@ -25,13 +25,6 @@ fn most(event: usize, day: u32) -> Date {
         bound: Bound::Most,
         day,
     }
-}
-
-fn whole(days: u32) -> Entry {
-    Entry::Activity(Activity {
-        work: Work::Days(days),
-        running: Running::Whole,
-    })
 }
 
 #[test]

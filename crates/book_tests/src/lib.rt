@@ -8,6 +8,8 @@ mod activities;
 mod arrows;
 pub mod cramped;
 #[cfg(test)]
+mod entries;
+#[cfg(test)]
 mod gaps;
 #[cfg(test)]
 mod layers;
