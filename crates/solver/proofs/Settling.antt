@@ -1,9 +1,8 @@
 -- Sweep after sweep, the times have less room to rise. Assumes nothing.
-use Rattle.std.proofs.Common.{◌≡◌, ℕ, zero, suc, ◌+◌, ◌-◌, ◌<◌, ◌≤◌, List, ap, ⊎_elim, arith}
+use Rattle.std.proofs.Common.{◌≡◌, ℕ, zero, suc, ◌+◌, ◌-◌, ◌<◌, ◌≤◌, ap, ⊎_elim, arith}
 use Rattle.std.proofs.lemmas.Bool.{cases_eq}
 use Rattle.network.specs.Schedules.{greatest}
 use Rattle.network.proofs.Lengths.{greatest_least}
-use Rattle.solver.specs.declared.arc.Arc.{Arc}
 use Rattle.solver.specs.declared.arcs.Arcs.{Arcs}
 use Rattle.solver.specs.Walks.{Rooted}
 

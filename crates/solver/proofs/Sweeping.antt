@@ -1,14 +1,15 @@
 -- A sweep, arc by arc. Assumes nothing.
-use Rattle.std.proofs.Common.{◌≡◌, ℕ, ◌+◌, ◌-◌, ◌*◌, ◌<◌, ◌≤◌, Bool, true, false, cond, ◌||◌, ltb, ◌≢◌, List, length, set, MatchBool, sym, refl, ap, ◌∙◌, subst, ⊎_elim, arith}
+use Rattle.std.proofs.Common.{◌≡◌, ℕ, ◌+◌, ◌-◌, ◌*◌, ◌<◌, ◌≤◌, Bool, true, false, cond, ◌||◌, ltb, ◌≢◌, set, MatchBool, sym, refl, ap, ◌∙◌, subst, ⊎_elim, arith}
 use Rattle.std.proofs.lemmas.List.{get_or-set_same, get_or-set_other}
 use Rattle.std.proofs.lemmas.Bool.{cases_eq, ltb-true, ltb-false, or_right}
 use Rattle.network.specs.Schedules.{greatest}
 use Rattle.network.proofs.Lengths.{greatest_bounds, greatest_least}
 use Rattle.solver.specs.declared.arc.Arc.{Arc}
 use Rattle.solver.specs.declared.arcs.Arcs.{Arcs}
+use Rattle.solver.specs.declared.rise.Rise.{Rise}
 use Rattle.solver.specs.Arcs.{MeetsArc, arc_at}
 use Rattle.solver.proofs.Lows.{low_at}
-use Rattle.solver.specs.Rising.{time_at, Moved, Swept}
+use Rattle.solver.specs.Rising.{time_at, Rising, Moved, Swept}
 use Rattle.solver.proofs.Raising.{raise_keeps}
 
 pub or_false : (b : Bool) → (b || false) ≡ b
@@ -16,70 +17,73 @@ or_false true = refl
 or_false false = refl
 
 -- one arc, met or not
-module _ (arcs : Arcs) (ts ps : List ℕ) (k : ℕ)
-    (inside : k < arcs.count) (timed : length ts ≡ 1024) (tied : length ps ≡ 1024)
-    (a : Arc) (is : arc_at arcs.arcs k ≡ a) where
-  module _ (unmet : time_at ts a.reached + a.down < time_at ts a.left + a.up) where
-    abbrev ts' : List ℕ
-    ts' = set ts a.reached (time_at ts a.left + a.up - a.down)
+module _ (arcs : Arcs) (was : Rise) (k : ℕ) (inside : k < arcs.count) (a : Arc) (is : arc_at arcs.arcs k ≡ a) (rise : Rise) where
+  abbrev t : ℕ → ℕ
+  t = time_at was.times
 
-    abbrev ps' : List ℕ
-    ps' = set ps a.reached (k + 1)
+  abbrev t' : ℕ → ℕ
+  t' = time_at rise.times
 
-    pub raised : time_at ts' a.reached ≡ time_at ts a.left + a.up - a.down
-    raised = get_or-set_same ts a.reached _ 0 (omega (arith, (low_at arcs k inside a is).1.0, arcs.small))
+  -- the arc is not met: the event that it reaches is raised
+  module _ (unmet : t a.reached + a.down < t a.left + a.up)
+      (times : rise.times ≡ set was.times a.reached (t a.left + a.up - a.down)) (parents : rise.parents ≡ set was.parents a.reached (k + 1)) where
+    reached_low : a.reached < 1024
+    reached_low = omega (arith, (low_at arcs k inside a is).1.0, arcs.small)
 
-    others : (e : ℕ) → (e ≡ a.reached → ⊥) → time_at ts' e ≡ time_at ts e
-    others e n = let ne : e ≢ a.reached = n in get_or-set_other ts a.reached e _ 0 ne
+    pub raised : t' a.reached ≡ t a.left + a.up - a.down
+    raised = ap (λ l. time_at l a.reached) times ∙ get_or-set_same was.times a.reached _ 0 (omega (arith, reached_low, was.timed))
 
-    by : time_at ps' a.reached ≡ k + 1
-    by = get_or-set_same ps a.reached _ 0 (omega (arith, (low_at arcs k inside a is).1.0, arcs.small))
+    others : (e : ℕ) → (e ≡ a.reached → ⊥) → t' e ≡ t e
+    others e n = let ne : e ≢ a.reached = n in ap (λ l. time_at l e) times ∙ get_or-set_other was.times a.reached e _ 0 ne
 
-    kept : (e : ℕ) → (e ≡ a.reached → ⊥) → time_at ps' e ≡ time_at ps e
-    kept e n = let ne : e ≢ a.reached = n in get_or-set_other ps a.reached e _ 0 ne
+    by : time_at rise.parents a.reached ≡ k + 1
+    by = ap (λ l. time_at l a.reached) parents ∙ get_or-set_same was.parents a.reached _ 0 (omega (arith, reached_low, was.tied))
 
-    pub moved_raised : Moved arcs ts ps ts' ps' 1
+    kept : (e : ℕ) → (e ≡ a.reached → ⊥) → time_at rise.parents e ≡ time_at was.parents e
+    kept e n = let ne : e ≢ a.reached = n in ap (λ l. time_at l e) parents ∙ get_or-set_other was.parents a.reached e _ 0 ne
+
+    pub moved_raised : Moved arcs was rise 1
     moved_raised = record {
-      rising = λ start was. raise_keeps arcs start (time_at ts) (time_at ps) was k inside a is unmet (time_at ts') (time_at ps') raised others by kept;
+      rising = λ start so. raise_keeps arcs start t (time_at was.parents) so k inside a is unmet t' (time_at rise.parents) raised others by kept;
       grows = λ e. ⊎_elim
-          (λ (same : e ≡ a.reached). let y = ap (time_at ts) same in let z = ap (time_at ts') same in omega (arith, raised))
+          (λ (same : e ≡ a.reached). let y = ap t same in let z = ap t' same in omega (arith, raised))
           (λ (other : e ≡ a.reached → ⊥). let y = others e other in omega arith)
           (cases_eq e a.reached);
-      bound = greatest_least (time_at ts') arcs.events (greatest (time_at ts) arcs.events + 99999 * 1) (λ e h. ⊎_elim
-          (λ (same : e ≡ a.reached). let x = greatest_bounds (time_at ts) arcs.events a.left (low_at arcs k inside a is).0 in let z = ap (time_at ts') same in omega (arith, raised, (low_at arcs k inside a is).1.1.0))
-          (λ (other : e ≡ a.reached → ⊥). let x = greatest_bounds (time_at ts) arcs.events e h in let y = others e other in omega arith)
+      bound = greatest_least t' arcs.events (greatest t arcs.events + 99999 * 1) (λ e h. ⊎_elim
+          (λ (same : e ≡ a.reached). let low = low_at arcs k inside a is in let x = greatest_bounds t arcs.events a.left low.0 in let z = ap t' same in omega (arith, raised, low.1.1.0))
+          (λ (other : e ≡ a.reached → ⊥). let x = greatest_bounds t arcs.events e h in let y = others e other in omega arith)
           (cases_eq e a.reached));
     }
 
-  moved_not : Moved arcs ts ps ts ps 1
-  moved_not = record { rising = λ start was. was; grows = λ e. omega arith; bound = omega arith }
+  -- the arc is met: nothing changes
+  pub moved_not : rise.times ≡ was.times → rise.parents ≡ was.parents → Moved arcs was rise 1
+  moved_not times parents = record {
+    rising = λ start so. subst (λ l. Rising arcs start (time_at l) (time_at rise.parents)) (sym times) (subst (λ l. Rising arcs start t (time_at l)) (sym parents) so);
+    grows = λ e. let x = ap (λ l. time_at l e) times in omega arith;
+    bound = let x = ap (λ l. greatest (time_at l) arcs.events) times in omega arith;
+  }
 
-  pub moved_one : (r : Bool) (us qs : List ℕ) → r ≡ ltb (time_at ts a.reached + a.down) (time_at ts a.left + a.up)
-      → us ≡ cond r (set ts a.reached (time_at ts a.left + a.up - a.down)) ts
-      → qs ≡ cond r (set ps a.reached (k + 1)) ps
-      → Moved arcs ts ps us qs 1
-  moved_one true us qs e f g =
-      let unmet = ltb-true (time_at ts a.reached + a.down) (time_at ts a.left + a.up) (sym e) in
-      subst (λ x. Moved arcs ts ps x qs 1) (sym f) (subst (λ y. Moved arcs ts ps (set ts a.reached (time_at ts a.left + a.up - a.down)) y 1) (sym g) (moved_raised unmet))
-  moved_one false us qs e f g = subst (λ x. Moved arcs ts ps x qs 1) (sym f) (subst (λ y. Moved arcs ts ps ts y 1) (sym g) moved_not)
+  pub moved_one : (r : Bool) → r ≡ ltb (t a.reached + a.down) (t a.left + a.up)
+      → rise.times ≡ cond r (set was.times a.reached (t a.left + a.up - a.down)) was.times
+      → rise.parents ≡ cond r (set was.parents a.reached (k + 1)) was.parents
+      → Moved arcs was rise 1
+  moved_one true e times parents = moved_raised (ltb-true (t a.reached + a.down) (t a.left + a.up) (sym e)) times parents
+  moved_one false e times parents = moved_not times parents
 
 module _ (arcs : Arcs) where
-  pub moved_none : (ts ps : List ℕ) → Moved arcs ts ps ts ps 0
-  moved_none ts ps = record { rising = λ start was. was; grows = λ e. omega arith; bound = omega arith }
-
-  pub moved_at : (ts ps us qs vs rs : List ℕ) (n : ℕ) → us ≡ vs → qs ≡ rs → Moved arcs ts ps us qs n → Moved arcs ts ps vs rs n
-  moved_at ts ps us qs vs rs n e f so = subst (λ x. Moved arcs ts ps x rs n) e (subst (λ y. Moved arcs ts ps us y n) f so)
+  pub moved_none : (rise : Rise) → Moved arcs rise rise 0
+  moved_none rise = record { rising = λ start was. was; grows = λ e. omega arith; bound = omega arith }
 
   -- move after move
-  pub moved_join : (ts ps us qs vs rs : List ℕ) (i j : ℕ) → Moved arcs ts ps us qs i → Moved arcs us qs vs rs j → Moved arcs ts ps vs rs (i + j)
-  moved_join ts ps us qs vs rs i j f g = record {
-    rising = λ start was. g.rising start (f.rising start was);
+  pub moved_join : (was mid rise : Rise) (i j : ℕ) → Moved arcs was mid i → Moved arcs mid rise j → Moved arcs was rise (i + j)
+  moved_join was mid rise i j f g = record {
+    rising = λ start so. g.rising start (f.rising start so);
     grows = λ e. let x = f.grows e in let y = g.grows e in omega arith;
     bound = omega (arith, f.bound, g.bound);
   }
 
-module _ (arcs : Arcs) (ts₀ ps₀ : List ℕ) where
-  pub swept_none : Swept arcs ts₀ ps₀ ts₀ ps₀ 0 false
+module _ (arcs : Arcs) (first : Rise) where
+  pub swept_none : Swept arcs first first 0 false
   swept_none = record {
     rising = λ start was. was;
     grows = λ e. omega arith;
@@ -87,53 +91,49 @@ module _ (arcs : Arcs) (ts₀ ps₀ : List ℕ) where
     told = (refl, refl, λ k h. absurd (omega arith));
   }
 
-  module _ (ts ps : List ℕ) (k : ℕ) (changed : Bool) (so : Swept arcs ts₀ ps₀ ts ps k changed)
-      (inside : k < arcs.count) (timed : length ts ≡ 1024) (tied : length ps ≡ 1024)
-      (a : Arc) (is : arc_at arcs.arcs k ≡ a) where
-    -- the arc is met: nothing changes
-    pub swept_met : (time_at ts a.left + a.up ≤ time_at ts a.reached + a.down) → Swept arcs ts₀ ps₀ ts ps (k + 1) changed
-    swept_met met = record {
-      rising = so.rising;
-      grows = so.grows;
-      bound = omega (arith, so.bound);
-      told = told_more changed so.told;
-    }
-      where
-        met_more : (c : ts ≡ ts₀) → ((j : ℕ) → j < k → MeetsArc (time_at ts) (arc_at arcs.arcs j)) → (j : ℕ) → j < k + 1 → MeetsArc (time_at ts) (arc_at arcs.arcs j)
-        met_more c all j h = ⊎_elim
-            (λ (same : j ≡ k). subst (MeetsArc (time_at ts)) (sym (ap (arc_at arcs.arcs) same ∙ is)) met)
-            (λ (other : j ≡ k → ⊥). all j (omega arith))
-            (cases_eq j k)
-
-        told_more : (b : Bool) → MatchBool b ((e : ℕ) × (e ≤ arcs.events) × (time_at ts₀ e < time_at ts e)) ((ts ≡ ts₀) × (ps ≡ ps₀) × ((j : ℕ) → j < k → MeetsArc (time_at ts) (arc_at arcs.arcs j)))
-            → MatchBool b ((e : ℕ) × (e ≤ arcs.events) × (time_at ts₀ e < time_at ts e)) ((ts ≡ ts₀) × (ps ≡ ps₀) × ((j : ℕ) → j < k + 1 → MeetsArc (time_at ts) (arc_at arcs.arcs j)))
-        told_more true w = w
-        told_more false w = (w.0, w.1, met_more w.0 w.2)
-
-    -- the arc is not met: the event that it reaches is raised
-    swept_raised : time_at ts a.reached + a.down < time_at ts a.left + a.up → Swept arcs ts₀ ps₀ (set ts a.reached (time_at ts a.left + a.up - a.down)) (set ps a.reached (k + 1)) (k + 1) true
-    swept_raised unmet =
-        let one = moved_raised arcs ts ps k inside timed tied a is unmet in
-        let up = raised arcs ts ps k inside timed tied a is unmet in
+  module _ (was : Rise) (k : ℕ) (changed : Bool) (so : Swept arcs first was k changed)
+      (inside : k < arcs.count) (a : Arc) (is : arc_at arcs.arcs k ≡ a) (rise : Rise) where
+    swept_met : time_at was.times a.left + a.up ≤ time_at was.times a.reached + a.down → rise.times ≡ was.times → rise.parents ≡ was.parents → Swept arcs first rise (k + 1) changed
+    swept_met met times parents =
+        let one = moved_not arcs was k inside a is rise times parents in
         record {
-          rising = λ start was. one.rising start (so.rising start was);
+          rising = λ start s. one.rising start (so.rising start s);
+          grows = λ e. let x = so.grows e in let y = one.grows e in omega arith;
+          bound = omega (arith, so.bound, one.bound);
+          told = told_more changed so.told;
+        }
+      where
+        met_more : ((j : ℕ) → j < k → MeetsArc (time_at was.times) (arc_at arcs.arcs j)) → (j : ℕ) → j < k + 1 → MeetsArc (time_at rise.times) (arc_at arcs.arcs j)
+        met_more all j h = subst (λ l. MeetsArc (time_at l) (arc_at arcs.arcs j)) (sym times) (⊎_elim
+            (λ (same : j ≡ k). subst (MeetsArc (time_at was.times)) (sym (ap (arc_at arcs.arcs) same ∙ is)) met)
+            (λ (other : j ≡ k → ⊥). all j (omega arith))
+            (cases_eq j k))
+
+        told_more : (b : Bool) → MatchBool b ((e : ℕ) × (e ≤ arcs.events) × (time_at first.times e < time_at was.times e)) ((was.times ≡ first.times) × (was.parents ≡ first.parents) × ((j : ℕ) → j < k → MeetsArc (time_at was.times) (arc_at arcs.arcs j)))
+            → MatchBool b ((e : ℕ) × (e ≤ arcs.events) × (time_at first.times e < time_at rise.times e)) ((rise.times ≡ first.times) × (rise.parents ≡ first.parents) × ((j : ℕ) → j < k + 1 → MeetsArc (time_at rise.times) (arc_at arcs.arcs j)))
+        told_more true w = (w.0, w.1, let x = ap (λ l. time_at l w.0) times in omega (arith, w.2))
+        told_more false w = (times ∙ w.0, parents ∙ w.1, met_more w.2)
+
+    swept_raised : time_at was.times a.reached + a.down < time_at was.times a.left + a.up
+        → rise.times ≡ set was.times a.reached (time_at was.times a.left + a.up - a.down) → rise.parents ≡ set was.parents a.reached (k + 1) → Swept arcs first rise (k + 1) true
+    swept_raised unmet times parents =
+        let one = moved_raised arcs was k inside a is rise unmet times parents in
+        let up = raised arcs was k inside a is rise unmet times parents in
+        record {
+          rising = λ start s. one.rising start (so.rising start s);
           grows = λ e. let x = so.grows e in let y = one.grows e in omega arith;
           bound = omega (arith, so.bound, one.bound);
           told = (a.reached, (low_at arcs k inside a is).1.0, (let x = so.grows a.reached in omega arith));
         }
 
     -- one arc more, met or not
-    pub swept_next : (r : Bool) (ts' ps' : List ℕ) → r ≡ ltb (time_at ts a.reached + a.down) (time_at ts a.left + a.up)
-        → ts' ≡ cond r (set ts a.reached (time_at ts a.left + a.up - a.down)) ts
-        → ps' ≡ cond r (set ps a.reached (k + 1)) ps
-        → Swept arcs ts₀ ps₀ ts' ps' (k + 1) (changed || r)
-    swept_next true ts' ps' e f g =
-        let unmet = ltb-true (time_at ts a.reached + a.down) (time_at ts a.left + a.up) (sym e) in
-        subst (λ x. Swept arcs ts₀ ps₀ x ps' (k + 1) (changed || true)) (sym f)
-        (subst (λ y. Swept arcs ts₀ ps₀ (set ts a.reached (time_at ts a.left + a.up - a.down)) y (k + 1) (changed || true)) (sym g)
-        (subst (λ b. Swept arcs ts₀ ps₀ (set ts a.reached (time_at ts a.left + a.up - a.down)) (set ps a.reached (k + 1)) (k + 1) b) (sym (or_right changed true refl)) (swept_raised unmet)))
-    swept_next false ts' ps' e f g =
-        let met = ltb-false (time_at ts a.reached + a.down) (time_at ts a.left + a.up) (sym e) in
-        subst (λ x. Swept arcs ts₀ ps₀ x ps' (k + 1) (changed || false)) (sym f)
-        (subst (λ y. Swept arcs ts₀ ps₀ ts y (k + 1) (changed || false)) (sym g)
-        (subst (λ b. Swept arcs ts₀ ps₀ ts ps (k + 1) b) (sym (or_false changed)) (swept_met met)))
+    pub swept_next : (r : Bool) → r ≡ ltb (time_at was.times a.reached + a.down) (time_at was.times a.left + a.up)
+        → rise.times ≡ cond r (set was.times a.reached (time_at was.times a.left + a.up - a.down)) was.times
+        → rise.parents ≡ cond r (set was.parents a.reached (k + 1)) was.parents
+        → Swept arcs first rise (k + 1) (changed || r)
+    swept_next true e times parents =
+        let unmet = ltb-true (time_at was.times a.reached + a.down) (time_at was.times a.left + a.up) (sym e) in
+        subst (Swept arcs first rise (k + 1)) (sym (or_right changed true refl)) (swept_raised unmet times parents)
+    swept_next false e times parents =
+        let met = ltb-false (time_at was.times a.reached + a.down) (time_at was.times a.left + a.up) (sym e) in
+        subst (Swept arcs first rise (k + 1)) (sym (or_false changed)) (swept_met met times parents)

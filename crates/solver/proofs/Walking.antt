@@ -2,7 +2,6 @@
 use Rattle.std.proofs.Common.{◌≡◌, ℕ, zero, suc, ◌+◌, ◌-◌, ◌<◌, ◌≤◌, ◌≢◌, ◌⊎◌, List, length, set, sym, refl, ap, ◌∙◌, inl, inr, ⊎_elim, arith}
 use Rattle.std.proofs.lemmas.List.{get_or-set_same, get_or-set_other, length-set}
 use Rattle.std.proofs.lemmas.Bool.{cases_eq}
-use Rattle.solver.specs.declared.arc.Arc.{Arc}
 use Rattle.solver.specs.declared.arcs.Arcs.{Arcs}
 use Rattle.solver.specs.Rising.{time_at, Raised, Rising, parent_of}
 use Rattle.solver.specs.Walks.{tally, before, ups, Rooted, Comes, RingAt, AllRooted}

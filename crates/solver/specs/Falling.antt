@@ -3,7 +3,6 @@
 --     Above ..        some table that keeps the arcs is nowhere later
 --     Sank ..         what any lowering does, Fell what a sweep does, and Fallen what all of them do
 use Rattle.std.specs.Prelude.{◌≡◌, ℕ, ◌<◌, ◌≤◌, Bool, List, MatchBool}
-use Rattle.solver.specs.declared.arc.Arc.{Arc}
 use Rattle.solver.specs.declared.arcs.Arcs.{Arcs}
 use Rattle.solver.specs.Arcs.{MeetsArc, arc_at}
 use Rattle.solver.specs.Rising.{time_at, Keeps}

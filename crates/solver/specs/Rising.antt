@@ -9,6 +9,7 @@ use Rattle.std.specs.Prelude.{◌≡◌, ℕ, ◌+◌, ◌-◌, ◌*◌, ◌<◌
 use Rattle.network.specs.Schedules.{greatest}
 use Rattle.solver.specs.declared.arc.Arc.{Arc}
 use Rattle.solver.specs.declared.arcs.Arcs.{Arcs}
+use Rattle.solver.specs.declared.rise.Rise.{Rise}
 use Rattle.solver.specs.Arcs.{MeetsArc, arc_at}
 
 abbrev pub time_at : List ℕ → ℕ → ℕ
@@ -44,16 +45,20 @@ module _ (arcs : Arcs) where
     pub order : ℕ → ℕ
     pub held : (e : ℕ) → e ≤ arcs.events → Held order start t par e
 
-  -- the tables ts and ps have become ts' and ps' by at most n raises
-  pub record Moved (ts ps ts' ps' : List ℕ) (n : ℕ) : Type 0 where
-    pub rising : (start : ℕ → ℕ) → Rising start (time_at ts) (time_at ps) → Rising start (time_at ts') (time_at ps')
-    pub grows : (e : ℕ) → time_at ts e ≤ time_at ts' e
-    pub bound : greatest (time_at ts') arcs.events ≤ greatest (time_at ts) arcs.events + 99999 * n
+  -- what had risen from a table has risen from it still
+  abbrev pub Carries : Rise → Rise → Type 0
+  Carries was rise = (start : ℕ → ℕ) → Rising start (time_at was.times) (time_at was.parents) → Rising start (time_at rise.times) (time_at rise.parents)
 
-  -- the tables ts and ps have become ts' and ps' by the first n arcs, raised or not
-  pub record Swept (ts ps ts' ps' : List ℕ) (n : ℕ) (changed : Bool) : Type 0 where
-    pub rising : (start : ℕ → ℕ) → Rising start (time_at ts) (time_at ps) → Rising start (time_at ts') (time_at ps')
-    pub grows : (e : ℕ) → time_at ts e ≤ time_at ts' e
-    pub bound : greatest (time_at ts') arcs.events ≤ greatest (time_at ts) arcs.events + 99999 * n
+  -- the times have risen by at most n raises
+  pub record Moved (was rise : Rise) (n : ℕ) : Type 0 where
+    pub rising : Carries was rise
+    pub grows : (e : ℕ) → time_at was.times e ≤ time_at rise.times e
+    pub bound : greatest (time_at rise.times) arcs.events ≤ greatest (time_at was.times) arcs.events + 99999 * n
+
+  -- the times have risen by the first n arcs, raised or not
+  pub record Swept (was rise : Rise) (n : ℕ) (changed : Bool) : Type 0 where
+    pub rising : Carries was rise
+    pub grows : (e : ℕ) → time_at was.times e ≤ time_at rise.times e
+    pub bound : greatest (time_at rise.times) arcs.events ≤ greatest (time_at was.times) arcs.events + 99999 * n
     -- an event was raised, or the tables are as before and the arcs are met
-    pub told : MatchBool changed ((e : ℕ) × (e ≤ arcs.events) × (time_at ts e < time_at ts' e)) ((ts' ≡ ts) × (ps' ≡ ps) × ((k : ℕ) → k < n → MeetsArc (time_at ts') (arc_at arcs.arcs k)))
+    pub told : MatchBool changed ((e : ℕ) × (e ≤ arcs.events) × (time_at was.times e < time_at rise.times e)) ((rise.times ≡ was.times) × (rise.parents ≡ was.parents) × ((k : ℕ) → k < n → MeetsArc (time_at rise.times) (arc_at arcs.arcs k)))

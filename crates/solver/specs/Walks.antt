@@ -6,8 +6,8 @@
 --     Comes at low m x    some steps lead from x to at, and with `low` they are at most m
 --     RingAt r            steps lead from r to r
 use Rattle.std.specs.Prelude.{◌≡◌, ℕ, zero, suc, ◌+◌, ◌*◌, ◌<◌, ◌≤◌, min, List, Some, None, Option}
-use Rattle.solver.specs.declared.arc.Arc.{Arc}
 use Rattle.solver.specs.declared.arcs.Arcs.{Arcs}
+use Rattle.solver.specs.declared.rise.Rise.{Rise}
 use Rattle.solver.specs.Rising.{time_at, parent_of, Rising}
 
 unfoldable pub tally : (ℕ → ℕ) → ℕ → ℕ
@@ -49,19 +49,19 @@ module _ (arcs : Arcs) (t par : ℕ → ℕ) where
   AllRooted S marks = (x : ℕ) → x ≤ arcs.events → 1 ≤ time_at marks x → Rooted S (tally (time_at marks) (arcs.events + 1)) x
 
 -- times that have risen from some table of at most 102,398,976 days
-pub record Risen (arcs : Arcs) (ts ps : List ℕ) : Type 0 where
+pub record Risen (arcs : Arcs) (rise : Rise) : Type 0 where
   pub start : ℕ → ℕ
   pub starts : (e : ℕ) → e ≤ arcs.events → start e ≤ 102398976
-  pub rising : Rising arcs start (time_at ts) (time_at ps)
+  pub rising : Rising arcs start (time_at rise.times) (time_at rise.parents)
 
 -- what a walk from event e has found: a ring, or that all marked events are rooted
-abbrev pub Walked : Arcs → List ℕ → List ℕ → List ℕ → List ℕ → ℕ → Option ℕ → Type 0
-Walked arcs ts ps marks₀ marks e None =
-    AllRooted arcs (time_at ts) (time_at ps) 102398976 marks
+abbrev pub Walked : Arcs → Rise → List ℕ → List ℕ → ℕ → Option ℕ → Type 0
+Walked arcs rise marks₀ marks e None =
+    AllRooted arcs (time_at rise.times) (time_at rise.parents) 102398976 marks
     × ((1 ≤ time_at marks e) × (((x : ℕ) → 1 ≤ time_at marks₀ x → 1 ≤ time_at marks x) × ((x : ℕ) → time_at marks x ≤ e + 1)))
-Walked arcs ts ps marks₀ marks e (Some r) = RingAt arcs (time_at ts) (time_at ps) r
+Walked arcs rise marks₀ marks e (Some r) = RingAt arcs (time_at rise.times) (time_at rise.parents) r
 
 -- what a look at all events has found: a ring, or that no time is far from where it rose from
-abbrev pub Looked : Arcs → List ℕ → List ℕ → Option ℕ → Type 0
-Looked arcs ts ps None = (e : ℕ) → e ≤ arcs.events → Rooted arcs (time_at ts) (time_at ps) 102398976 (arcs.events + 1) e
-Looked arcs ts ps (Some r) = RingAt arcs (time_at ts) (time_at ps) r
+abbrev pub Looked : Arcs → Rise → Option ℕ → Type 0
+Looked arcs rise None = (e : ℕ) → e ≤ arcs.events → Rooted arcs (time_at rise.times) (time_at rise.parents) 102398976 (arcs.events + 1) e
+Looked arcs rise (Some r) = RingAt arcs (time_at rise.times) (time_at rise.parents) r

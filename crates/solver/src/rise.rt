@@ -14,6 +14,7 @@ pub(crate) use crate::rise::longest::longest;
 pub(crate) const EVENTS: usize = 1024;
 
 /// The times of the events, and for each event the arc that last raised it, counted from 1, or 0.
+// 0 and not an Option: an Option takes twice the stack
 #[derive(Drop)]
 pub(crate) struct Rise {
     pub times: [u32; 1024],

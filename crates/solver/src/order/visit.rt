@@ -70,7 +70,7 @@ impl Visit {
     /// lists each as it is left.
     pub(crate) fn go(&mut self, arcs: &Arcs, lists: &Lists<4096>, first: usize, mark: usize) {
         self.enter(first, mark);
-        // every step leaves an event or takes up an arc
+        // a count and not a test alone, so that it is known to end: every step leaves an event or takes up an arc
         for _ in 0..5_120 {
             if self.depth == 0 {
                 break;

@@ -11,12 +11,12 @@ impl Rise {
     /// Goes from event `e` along the parents, marking each event, until there is none or one is marked:
     /// a mark of this walk means a ring.
     fn walk(&self, arcs: &Arcs, marks: &mut [u16; 1024], e: usize) -> Option<usize>
-        requires risen { Risen arcs.now self.now.times self.now.parents }
+        requires risen { Risen arcs.now self.now }
         requires inside { e ≤ arcs.now.events }
         requires long { length marks.old ≡ 1024 }
         requires ids { (x : ℕ) → time_at marks.old x < e + 1 }
         requires rooted { AllRooted arcs.now (time_at self.now.times) (time_at self.now.parents) 102398976 marks.old }
-        ensures found { Walked arcs.now self.now.times self.now.parents marks.old marks.new e result }
+        ensures found { Walked arcs.now self.now marks.old marks.new e result }
         ensures size { length marks.new ≡ 1024 }
     {
         let own = (e + 1) as u16;
@@ -34,8 +34,8 @@ impl Rise {
 
     /// An event on a ring among the parents; nothing where every event leads back to one that was never raised.
     pub(crate) fn look(&self, arcs: &Arcs) -> Option<usize>
-        requires { Risen arcs.now self.now.times self.now.parents }
-        ensures { Looked arcs.now self.now.times self.now.parents result }
+        requires { Risen arcs.now self.now }
+        ensures { Looked arcs.now self.now result }
     {
         let mut marks = [0; 1024];
         for e in 0..=arcs.events {

@@ -15,9 +15,9 @@ impl Rise {
     /// is read, which is on a ring of parents, or is event 0, and raised.
     /// The order is only a hint: the sweep that changes nothing goes over every arc.
     pub(crate) fn settle(&mut self, arcs: &Arcs, order: &Order) -> Result<(), usize>
-        requires risen { Risen arcs.now self.old.times self.old.parents }
+        requires risen { Risen arcs.now self.old }
         requires bound { greatest (time_at self.old.times) arcs.now.events ≤ 204800000 }
-        ensures { Outcome arcs.now self.old.times self.old.parents self.new.times self.new.parents result }
+        ensures { Outcome arcs.now self.old self.new result }
     {
         let mut passes = arcs.events + 1;
         loop {

@@ -34,7 +34,7 @@ impl Rise {
     pub(crate) fn push(&mut self, arcs: &Arcs, hinted: &[u16])
         requires few { length hinted.now ≤ 8192 }
         requires bound { greatest (time_at self.old.times) arcs.now.events ≤ 3000000000 }
-        ensures { Moved arcs.now self.old.times self.old.parents self.new.times self.new.parents (length hinted.now) }
+        ensures { Moved arcs.now self.old self.new (length hinted.now) }
     {
         for hint in hinted {
             let k = usize::from(*hint);
@@ -47,7 +47,7 @@ impl Rise {
     /// Goes over every arc once, and says whether it raised an event.
     pub(crate) fn sweep(&mut self, arcs: &Arcs) -> bool
         requires { greatest (time_at self.old.times) arcs.now.events ≤ 3000000000 }
-        ensures { Swept arcs.now self.old.times self.old.parents self.new.times self.new.parents arcs.now.count result }
+        ensures { Swept arcs.now self.old self.new arcs.now.count result }
     {
         let mut changed = false;
         for (k, arc) in arcs.all().iter().enumerate() {

@@ -13,8 +13,8 @@ settle-requires g c =
     let arcs = c.take.new.self in
     let rise = c.begin-rise in
     record {
-      risen = risen_none arcs rise.result.times rise.result.parents rise.ensures.times rise.ensures.parents;
-      bound = none_late arcs rise.result.times rise.result.parents rise.ensures.times rise.ensures.parents;
+      risen = risen_none arcs rise.result rise.ensures.times rise.ensures.parents;
+      bound = none_late arcs rise.result rise.ensures.times rise.ensures.parents;
     }
 
 pub windows-requires : goal.windows-requires
@@ -23,7 +23,7 @@ windows-requires g c =
     let rise = c.begin-rise in
     let rest = c.in-Ok.ensures in
     record {
-      rising = rest.carries (λ _. 0) (rising_none arcs rise.result.times rise.result.parents rise.ensures.times rise.ensures.parents);
+      rising = rest.carries (λ _. 0) (rising_none arcs rise.result rise.ensures.times rise.ensures.parents);
       first = rest.first;
       bound = rest.bound;
       keeps = rest.keeps;
@@ -35,7 +35,7 @@ ring_from-requires g c =
     let rise = c.begin-rise in
     let ringed = c.in-Err.ensures in
     record {
-      rising = ringed.carries (λ _. 0) (rising_none arcs rise.result.times rise.result.parents rise.ensures.times rise.ensures.parents);
+      rising = ringed.carries (λ _. 0) (rising_none arcs rise.result rise.ensures.times rise.ensures.parents);
       inside = ringed.inside;
       ends = ringed.ends;
     }

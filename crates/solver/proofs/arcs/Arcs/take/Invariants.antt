@@ -1,4 +1,4 @@
-use Rattle.std.proofs.Common.{◌≡◌, ◌+◌}
+use Rattle.std.proofs.Common.{◌≡◌}
 use Rattle.solver.proofs.Gathering.{SoFar}
 use Rattle.solver.proofs.arcs.Arcs.take.Given as goal
 

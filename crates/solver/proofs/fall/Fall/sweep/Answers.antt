@@ -1,4 +1,4 @@
-use Rattle.std.proofs.Common.{◌≡◌, ◌<◌, ◌≤◌, sym, subst, arith}
+use Rattle.std.proofs.Common.{◌≡◌, ◌<◌, sym, subst, arith}
 use Rattle.network.proofs.Lengths.{greatest_bounds}
 use Rattle.solver.specs.Arcs.{MeetsArc, arc_at}
 use Rattle.solver.specs.Rising.{time_at}

@@ -1,8 +1,8 @@
-use Rattle.std.proofs.Common.{◌+◌, sym, ap, subst, arith}
+use Rattle.std.proofs.Common.{◌+◌, sym, subst, arith}
 use Rattle.network.proofs.Lengths.{greatest_bounds}
 use Rattle.solver.specs.Rising.{time_at, Moved}
 use Rattle.solver.proofs.Lows.{low_at}
-use Rattle.solver.proofs.Sweeping.{moved_none, moved_one, moved_join, moved_at}
+use Rattle.solver.proofs.Sweeping.{moved_none, moved_one, moved_join}
 use Rattle.solver.proofs.rise.Rise.push.Goals as goal
 use Rattle.solver.proofs.rise.Rise.push.Goals.{in-Some, in_default}
 
@@ -20,24 +20,24 @@ raise-requires c =
     record { left = omega arith; reached = omega arith; index = omega (arith, found.0); up = omega arith; down = omega arith }
 
 pub loop-hint-init : goal.loop-hint-init
-loop-hint-init c = moved_none c.args.arcs.now c.args.self.now.times c.args.self.now.parents
+loop-hint-init c = moved_none c.args.arcs.now c.args.self.now
 
 pub loop-hint-preserved : goal.loop-hint-preserved
 loop-hint-preserved c =
     let arcs = c.args.arcs.now in
+    let was = c.args.self.now in
     let so = c.loop-hint.invariant in
+    let next = c.loop-hint.hint-index + 1 in
     elim c.match-get.branch [
       | in-Some w ↦
           let found = w.in-Some.ensures in
           let told = w.raise.ensures in
-          moved_at arcs c.args.self.now.times c.args.self.now.parents _ _ _ _ (c.loop-hint.hint-index + 1) (sym (ap (λ s. s.times) w.self-is)) (sym (ap (λ s. s.parents) w.self-is))
-          (moved_join arcs c.args.self.now.times c.args.self.now.parents c.loop-hint.self.times c.loop-hint.self.parents w.raise.new.self.times w.raise.new.self.parents c.loop-hint.hint-index 1 so
-          (moved_one arcs c.loop-hint.self.times c.loop-hint.self.parents c.from-k.result found.0 c.loop-hint.self.timed c.loop-hint.self.tied w.in-Some.arc found.1
-          w.raise.result w.raise.new.self.times w.raise.new.self.parents told.told told.times told.parents))
+          subst (λ rise. Moved arcs was rise next) (sym w.self-is)
+          (moved_join arcs was c.loop-hint.self w.raise.new.self c.loop-hint.hint-index 1 so
+          (moved_one arcs c.loop-hint.self c.from-k.result found.0 w.in-Some.arc found.1 w.raise.new.self w.raise.result told.told told.times told.parents))
       | in_default w ↦
-          moved_at arcs c.args.self.now.times c.args.self.now.parents _ _ _ _ (c.loop-hint.hint-index + 1) (sym (ap (λ s. s.times) w.self-is)) (sym (ap (λ s. s.parents) w.self-is))
-          (record { rising = so.rising; grows = so.grows; bound = omega (arith, so.bound) })
+          subst (λ rise. Moved arcs was rise next) (sym w.self-is) (record { rising = so.rising; grows = so.grows; bound = omega (arith, so.bound) })
     ]
 
 pub returns : goal.returns
-returns c = subst (Moved c.args.arcs.now c.args.self.now.times c.args.self.now.parents c.loop-hint.self.times c.loop-hint.self.parents) (omega arith) c.loop-hint.invariant
+returns c = subst (Moved c.args.arcs.now c.args.self.now c.loop-hint.self) (omega arith) c.loop-hint.invariant

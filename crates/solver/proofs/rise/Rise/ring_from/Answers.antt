@@ -4,7 +4,6 @@ use Rattle.solver.specs.Arcs.{arc_at}
 use Rattle.solver.specs.Rising.{time_at, parent_of}
 use Rattle.solver.specs.RingSteps.{step_of, last_first}
 use Rattle.solver.specs.Walks.{RingAt, Rooted}
-use Rattle.solver.proofs.Lows.{lows}
 use Rattle.solver.proofs.Climbing.{Climb, climb_ends, climb_none, climb_more, ring_closed, ring_floored, ring_raised}
 use Rattle.solver.proofs.rise.Rise.ring_from.Goals as goal
 use Rattle.solver.proofs.rise.Rise.ring_from.Goals.{Else-at-r, else-loop-i-test, then-loop-i-test+else-parent-eq0+else-at-r+else-i-i-end}

@@ -1,13 +1,13 @@
 use Rattle.std.proofs.Common.{◌≤◌}
 use Rattle.network.specs.Schedules.{greatest}
 use Rattle.solver.specs.Rising.{time_at}
-use Rattle.solver.specs.Outcomes.{Carries}
+use Rattle.solver.specs.Rising.{Carries}
 use Rattle.solver.proofs.Settling.{slack}
 use Rattle.solver.proofs.rise.Rise.settle.Given as goal
 
 abbrev pub invariant-loop-r : goal.invariant-loop-r
 invariant-loop-r l =
-    Carries l.arcs l.initial.self.times l.initial.self.parents l.self.times l.self.parents
+    Carries l.arcs l.initial.self l.self
     × (greatest (time_at l.self.times) l.arcs.events ≤ 204800000)
 
 -- how far the times can still rise

@@ -29,14 +29,13 @@ loop-k-preserved c =
     let inside : k < arcs.count = omega arith in
     let is = sym (all.ensures.each k inside) in
     let told = c.raise-changed.ensures in
-    swept_next arcs c.args.self.now.times c.args.self.now.parents c.loop-k.self.times c.loop-k.self.parents k c.loop-k.changed c.loop-k.invariant
-    inside c.loop-k.self.timed c.loop-k.self.tied (arc_at all.result.now k) is
-    c.raise-changed.result c.raise-changed.new.self.times c.raise-changed.new.self.parents told.told told.times told.parents
+    swept_next arcs c.args.self.now c.loop-k.self k c.loop-k.changed c.loop-k.invariant inside (arc_at all.result.now k) is
+    c.raise-changed.new.self c.raise-changed.result told.told told.times told.parents
 
 pub loop-k-init : goal.loop-k-init
-loop-k-init c = swept_none c.args.arcs.now c.args.self.now.times c.args.self.now.parents
+loop-k-init c = swept_none c.args.arcs.now c.args.self.now
 
 pub returns : goal.returns
 returns c =
     let same : c.loop-k.k ≡ c.args.arcs.now.count = omega arith in
-    subst (λ n. Swept c.args.arcs.now c.args.self.now.times c.args.self.now.parents c.loop-k.self.times c.loop-k.self.parents n c.loop-k.changed) same c.loop-k.invariant
+    subst (λ n. Swept c.args.arcs.now c.args.self.now c.loop-k.self n c.loop-k.changed) same c.loop-k.invariant

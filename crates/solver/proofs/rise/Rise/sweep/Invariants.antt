@@ -2,4 +2,4 @@ use Rattle.solver.specs.Rising.{Swept}
 use Rattle.solver.proofs.rise.Rise.sweep.Given as goal
 
 abbrev pub invariant-loop-k : goal.invariant-loop-k
-invariant-loop-k l = Swept l.arcs l.initial.self.times l.initial.self.parents l.self.times l.self.parents l.k l.changed
+invariant-loop-k l = Swept l.arcs l.initial.self l.self l.k l.changed

@@ -2,7 +2,6 @@ use Rattle.std.proofs.Common.{◌≡◌, ◌+◌, ◌-◌, ◌≤◌, set, sym, 
 use Rattle.std.proofs.lemmas.List.{length-set}
 use Rattle.solver.specs.Arcs.{arc_at}
 use Rattle.solver.specs.Rising.{time_at, parent_of}
-use Rattle.solver.proofs.Lows.{lows}
 use Rattle.solver.proofs.Walking.{Midway, midway_none, midway_next, walked_end, ring_found, walked_joined, one_more, room}
 use Rattle.solver.proofs.rise.Rise.walk.Goals as goal
 
