@@ -17,11 +17,7 @@ fn whole(days: u32) -> Entry {
 }
 
 fn refused(why: Refusal, place: usize) -> Refused {
-    Refused {
-        why,
-        layer: Layer::Plan,
-        place,
-    }
+    why.at(Layer::Plan, place)
 }
 
 /// One whole activity of so many days that has to finish by day 3.

@@ -12,6 +12,8 @@ use crate::text::FormText;
 use book::refusal::Layer;
 use network::gap::Owner;
 
+// The sheet's words are bytes of its own: `Display` would promise them only where the writing ends well.
+
 /// The layer of an owner.
 fn layer_name(owner: Owner) -> &'static [u8]
     ensures { result.now ≡ layer_text owner }

@@ -18,6 +18,7 @@ fn figure_count(n: u64) -> usize
 {
     let mut count = 1;
     let mut rest = n;
+    // an iterator over the tenths of a number, counted, would say the same in more words
     while rest >= 10 {
         count += 1;
         rest /= 10;

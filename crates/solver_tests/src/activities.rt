@@ -174,19 +174,19 @@ fn contradictions(rt: HostRuntime) -> Result<(), Fail> {
 /// A chain of 200 activities of 9,999 days, each 9,999 days after the one before; relations in order or in reverse.
 fn chain(reversed: bool) -> ActivityBook {
     let mut book = ActivityBook::new();
-    for before in 0..200 {
+    for line in 1..=200 {
         let _ = book.enter(
-            before + 1,
+            line,
             Entry::Activity(Activity {
                 work: Work::Days(9_999),
                 running: Running::Whole,
             }),
         );
     }
-    for before in 0..199 {
-        let first = if reversed { 199 - before } else { before + 1 };
+    for turn in 1..=199 {
+        let first = if reversed { 200 - turn } else { turn };
         let _ = book.enter(
-            before + 201,
+            turn + 200,
             relation(Kind::FS, Bound::Least, first, first + 1, 9_999),
         );
     }

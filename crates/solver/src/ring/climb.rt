@@ -53,6 +53,7 @@ impl Rise {
     {
         let mut steps = [floor_to(0); 1024];
         let mut at = r;
+        // the index is where a step stands in the table, which is filled where it stands; at most N + 1 steps show that it ends
         for i in 0..=arcs.events {
             let parent = self.parents[at];
             if parent == 0 {

@@ -21,6 +21,7 @@ impl Rise {
     {
         let own = (e + 1) as u16;
         let mut at = e;
+        // a mark is the number of a walk, or 0 and not an Option, which takes twice the stack; the walk follows parents, not an index
         while marks[at] == 0 {
             marks[at] = own;
             let parent = self.parents[at];
