@@ -5,6 +5,8 @@ use activity::entry::{Activity, Entry, Kind, Relation, Running, Work};
 use book::date::Bound;
 use book::traits::Book;
 
+// Words of this crate for its own cases: a crate that lends such words to every test and program would be no plainer.
+
 /// An activity.
 pub fn activity(work: Work, running: Running) -> Entry {
     Entry::Activity(Activity { work, running })

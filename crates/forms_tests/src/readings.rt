@@ -13,6 +13,8 @@ fn first(text: &[u8]) -> Result<Option<Form>, NoForm> {
     reader.next()
 }
 
+// Words of this crate for its own cases: a crate that lends such words to every test and program would be no plainer.
+
 fn activity(work: Work, running: Running) -> Item {
     Item::Activity(Activity { work, running })
 }

@@ -9,6 +9,8 @@ use dates::layer::Dated;
 use network::gap::{Gap, Step};
 use plan::open::OpenPlan;
 
+// Words of this crate for its own cases: a crate that lends such words to every test and program would be no plainer.
+
 fn whole(days: u32) -> Entry {
     Entry::Activity(Activity {
         work: Work::Days(days),

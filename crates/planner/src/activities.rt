@@ -7,6 +7,8 @@ use book::date::{Bound, Date};
 use dates::layer::Dated;
 use std::io;
 
+// Words of this crate for its own cases: a crate that lends such words to every test and program would be no plainer.
+
 /// An activity of so many days, without a break.
 fn whole(days: u32) -> Entry {
     Entry::Activity(Activity {

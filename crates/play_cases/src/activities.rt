@@ -9,6 +9,8 @@ use play::call::PlanCall;
 use play::play::play;
 use std::io;
 
+// Words of this crate for its own cases: a crate that lends such words to every test and program would be no plainer.
+
 /// An activity of so many days.
 pub fn activity(days: u32, running: Running) -> Entry {
     Entry::Activity(Activity {

@@ -4,6 +4,8 @@ use activity::entry::{Activity, Entry, Kind, Relation, Running, Work};
 use arrow::entry::Arrow;
 use book::date::{Bound, Date};
 
+// Words of this crate for its own cases: a crate that lends such words to every test and program would be no plainer.
+
 /// An activity of so many days.
 pub fn activity(days: u32, running: Running) -> Entry {
     Entry::Activity(Activity {

@@ -10,6 +10,8 @@ use network::gap::{Gap, Step};
 use solver::solve::solve;
 use std::test::Fail;
 
+// Words of this crate for its own cases: a crate that lends such words to every test and program would be no plainer.
+
 fn relation(kind: Kind, bound: Bound, first: usize, second: usize, lag: i32) -> Entry {
     Entry::Relation(Relation {
         kind,
