@@ -14,7 +14,8 @@ use book::traits::Book;
 use solver::solve::solve;
 
 // The calls' clauses name the book's meaning before and after as those of `Book` do, so that each can be read beside the
-// trait's: a word for the three of them would hide the equations that a caller looks for.
+// trait's: a word for the three of them would hide the equations that a caller looks for. A line and its entry are the two
+// things that such a call names, and so are a date place and its date: no value holds both anywhere.
 
 /// A plan over a book.
 #[derive(Drop)]
