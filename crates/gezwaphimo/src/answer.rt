@@ -62,6 +62,7 @@ fn answered(text: &[u8], out: &mut [u8]) -> Result<usize, Refused>
 /// Answers the bytes of the forms with the bytes of the sheet, or of the line that says why the text is refused: the
 /// count of bytes written, or -14 exactly where the answer is longer than the buffer. After -14 the buffer holds what it
 /// held; otherwise its bytes past the count do.
+// A number for the refusal, as C is told it.
 pub fn answer(forms: &[u8], answer: &mut [u8]) -> i64
     ensures { Answered forms.now answer.old answer.new result }
 {

@@ -18,6 +18,8 @@ use sheet::spanned::Spanned;
 // That an issued plan is right stands in the clauses of four calls, and not in a ghost field of `IssuedPlan`: such a field
 // needs a fact with at most one proof, and `Right` tells which event a ring leaves and which times show that a day is possible.
 
+// A call is told apart by a `match`, and is no closure: the caller's list holds it as data, and the clauses speak of it.
+
 /// A plan, open or issued.
 #[derive(Drop)]
 pub(crate) enum Stage<B: Book> {

@@ -10,6 +10,9 @@ use book::traits::Book;
 use plan::issued::IssuedPlan;
 use sheet_forms::form::{Row, Window};
 
+// That a line is at least 1 and at most 4,096 keeps the numbers of its events in range. A row is made of a line that the walk
+// over the book's lines has found, which are numbered and no type of their own.
+
 /// What the rows of a sheet are made from: a plan, and the room of each of its events.
 #[derive(Drop)]
 pub(crate) struct Rows<'a, B: Book> {

@@ -3,6 +3,8 @@
 ghost use Rattle.std.specs.Prelude.{◌≡◌};
 ghost use Rattle.sheet.specs.Rows.{earliest_told, latest_told, length_told};
 
+// 0 and not an Option: the rows are of a plan that has times, and a row's words have a meaning for any plan.
+
 use book::traits::Book;
 use plan::issued::IssuedPlan;
 
