@@ -10,9 +10,6 @@ mod sweep;
 
 pub(crate) use crate::rise::longest::longest;
 
-/// How many events a network can have, event 0 included.
-pub(crate) const EVENTS: usize = 1024;
-
 /// The times of the events, and for each event the arc that last raised it, counted from 1, or 0.
 // 0 and not an Option: an Option takes twice the stack
 #[derive(Drop)]
