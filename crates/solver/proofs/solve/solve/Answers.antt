@@ -1,12 +1,9 @@
-use Rattle.std.proofs.Common.{sym, ◌∙◌, arith, rules}
+use Rattle.std.proofs.Common.{sym, arith}
 use Rattle.solver.proofs.Starting.{rising_none, risen_none, none_late}
 use Rattle.solver.proofs.solve.solve.Goals as goal
 
 pub none-arcs-requires : goal.none-arcs-requires
 none-arcs-requires g c = omega (arith, c.events.ensures, (g.met.N.Network.lawful c.args.network.now).few_events)
-
-pub take-requires : goal.take-requires
-take-requires g c = search rules
 
 pub settle-requires : goal.settle-requires
 settle-requires g c =
@@ -39,12 +36,6 @@ ring_from-requires g c =
       inside = ringed.inside;
       ends = ringed.ends;
     }
-
-pub returns-in-Ok : goal.returns-in-Ok
-returns-in-Ok g c = record {
-  events = c.windows.ensures.events ∙ c.take.ensures.events;
-  sound = c.windows.ensures.sound (g.N.Network.network c.args.network.now) c.take.ensures.gaps (sym c.take.ensures.events);
-}
 
 pub returns-in-Err : goal.returns-in-Err
 returns-in-Err g c = c.ring_from.ensures (g.N.Network.network c.args.network.now) c.take.ensures.gaps (sym c.take.ensures.events)
