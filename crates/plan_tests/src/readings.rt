@@ -19,7 +19,11 @@ fn whole(days: u32) -> Entry {
 }
 
 fn refused(why: Refusal, place: usize) -> Refused {
-    why.at(Layer::Plan, place)
+    Refused {
+        why,
+        layer: Layer::Plan,
+        place,
+    }
 }
 
 /// One whole activity of so many days that has to finish by day 3.

@@ -65,7 +65,8 @@ where
             }
         }
     }
-    for n in 1..=plan.ring_steps() {
+    // one step past the last is asked for too, and refused
+    for n in 1..=plan.ring_steps().saturating_add(1) {
         if let Ok(step) = plan.ring_step(n) {
             print_step(rt, book, step)?;
         }

@@ -18,15 +18,15 @@ use Rattle.sheet.specs.declared.span.Span.TheVariants.{Activity, Arrow}
 use Rattle.sheet.specs.Floats.{Greatest, Raisable}
 
 -- the time that a table has for an event, or 0
-abbrev pub time_told : (Times → ℕ → ℕ) → Result Times Ring → ℕ → ℕ
-time_told t (Ok ts) e = cond (nat_le e ts.events) (t ts e) 0
-time_told t (Err ring) e = 0
+abbrev pub time_or_nought : (Times → ℕ → ℕ) → Result Times Ring → ℕ → ℕ
+time_or_nought t (Ok ts) e = cond (nat_le e ts.events) (t ts e) 0
+time_or_nought t (Err ring) e = 0
 
 abbrev pub earliest_told : Result Times Ring → ℕ → ℕ
-earliest_told = time_told earliest_of
+earliest_told = time_or_nought earliest_of
 
 abbrev pub latest_told : Result Times Ring → ℕ → ℕ
-latest_told = time_told latest_of
+latest_told = time_or_nought latest_of
 
 abbrev pub length_told : Result Times Ring → ℕ
 length_told (Ok ts) = ts.length
