@@ -15,7 +15,7 @@ use plan::open::OpenPlan;
 use sheet::sheet::sheet;
 use sheet::spanned::Spanned;
 
-// That an issued plan is right stands in the clauses of four calls, and not in a ghost field of `IssuedPlan`: such a field
+// That an issued plan is right stands in the clauses of the functions here, and not in a ghost field of `IssuedPlan`: such a field
 // needs a fact with at most one proof, and `Right` tells which event a ring leaves and which times show that a day is possible.
 
 // A call is told apart by a `match`, and is no closure: the caller's list holds it as data, and the clauses speak of it.

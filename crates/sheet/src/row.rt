@@ -21,7 +21,7 @@ pub(crate) struct Rows<'a, B: Book> {
 }
 
 impl Rooms {
-    /// The room of an event; none where there is no such event.
+    /// The room of an event; 0 where there is no such event.
     fn of(&self, event: usize) -> u32
         ensures { result ≡ slice_index self.now.days event }
     {

@@ -5,7 +5,7 @@ use crate::arcs::Arcs;
 use crate::order::lists::{Lists, at, write};
 
 /// How far the list of each event is followed, which events are seen, which are on the way and which are left.
-// tables of fixed size with their lengths beside: the engine has no heap, and they are filled where they stand
+// tables of fixed size, two with their lengths beside, and 0 for none: the engine has no heap, and an Option takes twice the stack
 #[derive(Drop)]
 pub(crate) struct Visit {
     cursors: [u16; 1024],
