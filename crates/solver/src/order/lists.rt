@@ -5,9 +5,9 @@ ghost use Rattle.std.specs.Iterator.{at_most};
 use crate::arc::Arc;
 use crate::arcs::Arcs;
 
-/// What stands at an index, or 0.
-pub(crate) fn at(table: &[u16], index: usize) -> usize {
-    table.get(index).map_or(0, |value| usize::from(*value))
+/// What stands at an index; nothing where there is no such index.
+pub(crate) fn at(table: &[u16], index: usize) -> Option<usize> {
+    table.get(index).map(|value| usize::from(*value))
 }
 
 /// Writes at an index, where there is one. No index of an arc or an event, counted from 1, is more than 4,096.
@@ -15,6 +15,16 @@ pub(crate) fn write(table: &mut [u16], index: usize, value: usize) {
     if let Some(place) = table.get_mut(index) {
         *place = value.min(4_096) as u16;
     }
+}
+
+/// The number that stands at an index, where numbers are counted from 1; nothing where 0 stands, or there is no such index.
+pub(crate) fn link(table: &[u16], index: usize) -> Option<usize> {
+    at(table, index)?.checked_sub(1)
+}
+
+/// Writes a number at an index, counted from 1, or 0 for none.
+pub(crate) fn write_link(table: &mut [u16], index: usize, number: Option<usize>) {
+    write(table, index, number.map_or(0, |value| value.saturating_add(1)));
 }
 
 /// For each event, or each part, a list of numbers from 0 to N - 1: each with the next one, counted from 1, or 0 at the end.
@@ -36,15 +46,15 @@ impl<const N: usize> Lists<N> {
 
     /// Puts a number at the head of a list.
     pub(crate) fn add(&mut self, list: usize, member: usize) {
-        write(&mut self.nexts, member, at(&self.heads, list));
-        write(&mut self.heads, list, member.saturating_add(1));
+        write_link(&mut self.nexts, member, link(&self.heads, list));
+        write_link(&mut self.heads, list, Some(member));
     }
 
     /// The members of a list, the one that was put there last first.
     pub(crate) fn members(&self, list: usize) -> Members<'_, N> {
         Members {
             nexts: &self.nexts,
-            cursor: at(&self.heads, list),
+            cursor: link(&self.heads, list),
             left: N,
         }
     }
@@ -55,11 +65,12 @@ impl<const N: usize> Lists<N> {
     }
 }
 
-/// The members of a list that are still to come, at most `left`: the next one counted from 1, or 0 at the end.
+/// The members of a list that are still to come, at most `left`, and the next of them.
+// `left` is a count, so that the iteration is known to end: nothing is known of the list itself
 #[derive(Drop)]
 pub(crate) struct Members<'a, const N: usize> {
     nexts: &'a [u16],
-    cursor: usize,
+    cursor: Option<usize>,
     left: usize,
 }
 
@@ -72,8 +83,8 @@ impl<'a, const N: usize> Iterator for Members<'a, N> {
         if self.left == 0 {
             return None;
         }
-        let member = self.cursor.checked_sub(1)?;
-        self.cursor = at(self.nexts, member);
+        let member = self.cursor?;
+        self.cursor = link(self.nexts, member);
         self.left -= 1;
         Some(member)
     }

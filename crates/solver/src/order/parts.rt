@@ -1,13 +1,13 @@
 //! The parts of a network: events that arcs tie both ways, so that each leads to each.
 
 use crate::arcs::Arcs;
-use crate::order::lists::{Lists, at, onward, reaching};
+use crate::order::lists::{Lists, link, onward, reaching};
 use crate::order::visit::{Visit, by_number, left_in_turn, turned};
 
 /// The events of each part.
 pub(crate) type Parts = Lists<1024>;
 
-/// For each event the number of its part, counted from 1: a part comes after those that lead to it. Of the events as a
+/// For each event the number of its part: a part comes after those that lead to it. Of the events as a
 /// visit along the arcs left them, the last is in the first part, with all that lead to it, and so on.
 fn numbers(arcs: &Arcs, left: &[u16; 1024]) -> [u16; 1024] {
     let reaching = reaching(arcs);
@@ -16,8 +16,8 @@ fn numbers(arcs: &Arcs, left: &[u16; 1024]) -> [u16; 1024] {
     for first in left[..=arcs.events].iter().rev() {
         let first = usize::from(*first);
         if !visit.has_seen(first) {
-            part = part.saturating_add(1);
             visit.go(arcs, &reaching, first, part);
+            part = part.saturating_add(1);
         }
     }
     visit.seen
@@ -34,7 +34,9 @@ fn parts_in_turn(
     let mut parts = Lists::none();
     for event in &left[..=arcs.events] {
         let event = usize::from(*event);
-        parts.add(at(numbers, event).saturating_sub(1), event);
+        if let Some(part) = link(numbers, event) {
+            parts.add(part, event);
+        }
     }
     parts
 }

@@ -2,7 +2,7 @@
 
 use crate::arc::Arc;
 use crate::arcs::Arcs;
-use crate::order::lists::{Lists, at, write};
+use crate::order::lists::{Lists, at, link, write, write_link};
 
 /// How far the list of each event is followed, which events are seen, which are on the way and which are left.
 // tables of fixed size, two with their lengths beside, and 0 for none: the engine has no heap, and an Option takes twice the stack
@@ -42,12 +42,12 @@ impl Visit {
 
     /// Whether an event is seen.
     pub(crate) fn has_seen(&self, event: usize) -> bool {
-        at(&self.seen, event) > 0
+        link(&self.seen, event).is_some()
     }
 
     /// Marks an event as seen, and goes on from it.
     fn enter(&mut self, event: usize, mark: usize) {
-        write(&mut self.seen, event, mark);
+        write_link(&mut self.seen, event, Some(mark));
         write(&mut self.way, self.depth, event);
         self.depth = self.depth.saturating_add(1);
     }
@@ -59,10 +59,15 @@ impl Visit {
         self.depth = self.depth.saturating_sub(1);
     }
 
+    /// The last event on the way.
+    fn here(&self) -> Option<usize> {
+        at(&self.way, self.depth.checked_sub(1)?)
+    }
+
     /// Takes up the next arc of an event.
     fn take_arc(&mut self, lists: &Lists<4096>, event: usize) -> Option<usize> {
-        let k = at(&self.cursors, event).checked_sub(1)?;
-        write(&mut self.cursors, event, at(&lists.nexts, k));
+        let k = link(&self.cursors, event)?;
+        write_link(&mut self.cursors, event, link(&lists.nexts, k));
         Some(k)
     }
 
@@ -72,10 +77,9 @@ impl Visit {
         self.enter(first, mark);
         // a count and not a test alone, so that it is known to end: every step leaves an event or takes up an arc
         for _ in 0..5_120 {
-            if self.depth == 0 {
+            let Some(here) = self.here() else {
                 break;
-            }
-            let here = at(&self.way, self.depth - 1);
+            };
             let taken = self.take_arc(lists, here);
             match taken.and_then(|k| arcs.get(k)) {
                 None => self.leave(here),
@@ -113,7 +117,7 @@ pub(crate) fn left_in_turn(arcs: &Arcs, lists: &Lists<4096>, begins: &[u16; 1024
     for first in &begins[..=arcs.events] {
         let first = usize::from(*first);
         if !visit.has_seen(first) {
-            visit.go(arcs, lists, first, 1);
+            visit.go(arcs, lists, first, 0);
         }
     }
     visit.left
