@@ -11,12 +11,12 @@ pub(crate) type Parts = Lists<1024>;
 /// visit along the arcs left them, the last is in the first part, with all that lead to it, and so on.
 fn numbers(arcs: &Arcs, left: &[u16; 1024]) -> [u16; 1024] {
     let reaching = reaching(arcs);
-    let mut visit = Visit::over(&reaching);
+    let mut visit = Visit::over(arcs, &reaching);
     let mut part: usize = 0;
     for first in left[..=arcs.events].iter().rev() {
         let first = usize::from(*first);
         if !visit.has_seen(first) {
-            visit.go(arcs, &reaching, first, part);
+            visit.go(first, part);
             part = part.saturating_add(1);
         }
     }

@@ -4,10 +4,13 @@ use crate::arc::Arc;
 use crate::arcs::Arcs;
 use crate::order::lists::{Lists, at, link, write, write_link};
 
-/// How far the list of each event is followed, which events are seen, which are on the way and which are left.
+/// A visit along the arcs that stand on `lists`: how far the list of each event is followed, which events are seen,
+/// which are on the way and which are left.
 // tables of fixed size, two with their lengths beside, and 0 for none: the engine has no heap, and an Option takes twice the stack
 #[derive(Drop)]
-pub(crate) struct Visit {
+pub(crate) struct Visit<'a> {
+    arcs: &'a Arcs,
+    lists: &'a Lists<4096>,
     cursors: [u16; 1024],
     pub seen: [u16; 1024],
     way: [u16; 1024],
@@ -26,12 +29,13 @@ fn other_end(arc: Arc, event: usize) -> usize {
     }
 }
 
-impl Visit {
+impl<'a> Visit<'a> {
     /// No event is seen yet, and each list is at its beginning.
-    pub(crate) fn over(lists: &Lists<4096>) -> Visit {
-        let cursors = lists.heads;
+    pub(crate) fn over(arcs: &'a Arcs, lists: &'a Lists<4096>) -> Visit<'a> {
         Visit {
-            cursors,
+            arcs,
+            lists,
+            cursors: lists.heads,
             seen: [0; 1024],
             way: [0; 1024],
             depth: 0,
@@ -65,23 +69,22 @@ impl Visit {
     }
 
     /// Takes up the next arc of an event.
-    fn take_arc(&mut self, lists: &Lists<4096>, event: usize) -> Option<usize> {
+    fn take_arc(&mut self, event: usize) -> Option<Arc> {
         let k = link(&self.cursors, event)?;
-        write_link(&mut self.cursors, event, link(&lists.nexts, k));
-        Some(k)
+        write_link(&mut self.cursors, event, link(&self.lists.nexts, k));
+        self.arcs.get(k)
     }
 
     /// Visits the events that arcs lead to from an event, where they are not seen yet. Marks each as it is come upon, and
     /// lists each as it is left.
-    pub(crate) fn go(&mut self, arcs: &Arcs, lists: &Lists<4096>, first: usize, mark: usize) {
+    pub(crate) fn go(&mut self, first: usize, mark: usize) {
         self.enter(first, mark);
         // a count and not a test alone, so that it is known to end: every step leaves an event or takes up an arc
         for _ in 0..5_120 {
             let Some(here) = self.here() else {
                 break;
             };
-            let taken = self.take_arc(lists, here);
-            match taken.and_then(|k| arcs.get(k)) {
+            match self.take_arc(here) {
                 None => self.leave(here),
                 Some(arc) => {
                     let next = other_end(arc, here);
@@ -96,11 +99,7 @@ impl Visit {
 
 /// The numbers of the events.
 pub(crate) fn by_number() -> [u16; 1024] {
-    let mut events = [0; 1024];
-    for (event, place) in (0..1024).zip(events.iter_mut()) {
-        *place = event;
-    }
-    events
+    std::array::from_fn(|event| event as u16)
 }
 
 /// The events the other way round.
@@ -113,11 +112,11 @@ pub(crate) fn turned(arcs: &Arcs, events: &[u16; 1024]) -> [u16; 1024] {
 /// The events, each after those to which arcs lead from it, but for arcs that lead back. The visit begins at the first of
 /// `begins`, and then at each that is not seen yet.
 pub(crate) fn left_in_turn(arcs: &Arcs, lists: &Lists<4096>, begins: &[u16; 1024]) -> [u16; 1024] {
-    let mut visit = Visit::over(lists);
+    let mut visit = Visit::over(arcs, lists);
     for first in &begins[..=arcs.events] {
         let first = usize::from(*first);
         if !visit.has_seen(first) {
-            visit.go(arcs, lists, first, 0);
+            visit.go(first, 0);
         }
     }
     visit.left
