@@ -90,30 +90,40 @@ impl<'a, const N: usize> Iterator for Members<'a, N> {
     }
 }
 
+/// A table of arcs, and for each event a list of some of them.
+#[derive(Drop)]
+pub(crate) struct ArcLists<'a> {
+    pub arcs: &'a Arcs,
+    pub lists: Lists<4096>,
+}
+
 /// The arcs for which there is an event, each on the list of its event.
-fn listed<F: Fn(&Arc) -> Option<u16>>(arcs: &Arcs, event_of: F) -> Lists<4096>
+fn listed<F: Fn(&Arc) -> Option<u16>>(arcs: &Arcs, event_of: F) -> ArcLists<'_>
     requires { F.IsAlwaysCallable event_of }
 {
-    let mut lists = Lists::none();
+    let mut listed = ArcLists {
+        arcs,
+        lists: Lists::none(),
+    };
     for (k, arc) in arcs.all().iter().enumerate() {
         if let Some(event) = event_of(arc) {
-            lists.add(usize::from(event), k);
+            listed.lists.add(usize::from(event), k);
         }
     }
-    lists
+    listed
 }
 
 /// The arcs that leave each event.
-pub(crate) fn leaving(arcs: &Arcs) -> Lists<4096> {
+pub(crate) fn leaving(arcs: &Arcs) -> ArcLists<'_> {
     listed(arcs, |arc| Some(arc.left))
 }
 
 /// The arcs of no negative days that leave each event.
-pub(crate) fn onward(arcs: &Arcs) -> Lists<4096> {
+pub(crate) fn onward(arcs: &Arcs) -> ArcLists<'_> {
     listed(arcs, |arc| (arc.down == 0).then_some(arc.left))
 }
 
 /// The arcs that reach each event but event 0. Event 0 stays at 0, so that what reaches it leads no further.
-pub(crate) fn reaching(arcs: &Arcs) -> Lists<4096> {
+pub(crate) fn reaching(arcs: &Arcs) -> ArcLists<'_> {
     listed(arcs, |arc| (arc.reached > 0).then_some(arc.reached))
 }

@@ -2,15 +2,14 @@
 
 use crate::arc::Arc;
 use crate::arcs::Arcs;
-use crate::order::lists::{Lists, at, link, write, write_link};
+use crate::order::lists::{ArcLists, at, link, write, write_link};
 
-/// A visit along the arcs that stand on `lists`: how far the list of each event is followed, which events are seen,
+/// A visit along the arcs of a list for each event: how far the list of each event is followed, which events are seen,
 /// which are on the way and which are left.
 // tables of fixed size, two with their lengths beside, and 0 for none: the engine has no heap, and an Option takes twice the stack
 #[derive(Drop)]
 pub(crate) struct Visit<'a> {
-    arcs: &'a Arcs,
-    lists: &'a Lists<4096>,
+    listed: &'a ArcLists<'a>,
     cursors: [u16; 1024],
     pub seen: [u16; 1024],
     way: [u16; 1024],
@@ -31,11 +30,10 @@ fn other_end(arc: Arc, event: usize) -> usize {
 
 impl<'a> Visit<'a> {
     /// No event is seen yet, and each list is at its beginning.
-    pub(crate) fn over(arcs: &'a Arcs, lists: &'a Lists<4096>) -> Visit<'a> {
+    pub(crate) fn over(listed: &'a ArcLists<'a>) -> Visit<'a> {
         Visit {
-            arcs,
-            lists,
-            cursors: lists.heads,
+            listed,
+            cursors: listed.lists.heads,
             seen: [0; 1024],
             way: [0; 1024],
             depth: 0,
@@ -71,8 +69,8 @@ impl<'a> Visit<'a> {
     /// Takes up the next arc of an event.
     fn take_arc(&mut self, event: usize) -> Option<Arc> {
         let k = link(&self.cursors, event)?;
-        write_link(&mut self.cursors, event, link(&self.lists.nexts, k));
-        self.arcs.get(k)
+        write_link(&mut self.cursors, event, link(&self.listed.lists.nexts, k));
+        self.listed.arcs.get(k)
     }
 
     /// Visits the events that arcs lead to from an event, where they are not seen yet. Marks each as it is come upon, and
@@ -111,9 +109,9 @@ pub(crate) fn turned(arcs: &Arcs, events: &[u16; 1024]) -> [u16; 1024] {
 
 /// The events, each after those to which arcs lead from it, but for arcs that lead back. The visit begins at the first of
 /// `begins`, and then at each that is not seen yet.
-pub(crate) fn left_in_turn(arcs: &Arcs, lists: &Lists<4096>, begins: &[u16; 1024]) -> [u16; 1024] {
-    let mut visit = Visit::over(arcs, lists);
-    for first in &begins[..=arcs.events] {
+pub(crate) fn left_in_turn(listed: &ArcLists, begins: &[u16; 1024]) -> [u16; 1024] {
+    let mut visit = Visit::over(listed);
+    for first in &begins[..=listed.arcs.events] {
         let first = usize::from(*first);
         if !visit.has_seen(first) {
             visit.go(first, 0);
