@@ -3,7 +3,7 @@
 ghost use Rattle.std.specs.Prelude.{◌≡◌, ◌≤◌, length};
 ghost use Rattle.network.specs.Meanings.{Meaning};
 ghost use Rattle.network.specs.Rings.{Contradictory};
-ghost use Rattle.solver.specs.Arcs.{Gathered};
+ghost use Rattle.solver.specs.Copies.{GatheredFrom};
 ghost use Rattle.solver.specs.Rising.{time_at, Rising};
 ghost use Rattle.solver.specs.RingSteps.{step_of, floor_to, ring_steps, Ends};
 
@@ -49,7 +49,7 @@ impl Rise {
         requires rising { Rising arcs.now (λ _. 0) (time_at self.now.times) (time_at self.now.parents) }
         requires inside { r ≤ arcs.now.events }
         requires ends { Ends arcs.now (time_at self.now.times) (time_at self.now.parents) r }
-        ensures { (m : Meaning) → Gathered m arcs.now.arcs arcs.now.count → m.events ≡ arcs.now.events → Contradictory m (ring_steps result) }
+        ensures { (m : Meaning) → GatheredFrom m arcs.now → Contradictory m (ring_steps result) }
     {
         let mut steps = [floor_to(0); 1024];
         let mut at = r;

@@ -15,7 +15,7 @@ loop-i-init c =
     climb_none arcs (λ _. 0) (time_at now.times) (time_at now.parents) c.requires.rising 0 (λ e h. omega arith) c.args.r (replicate 1024 c.floor_to-steps.result) refl c.requires.inside
 
 pub returns-then-parent-eq0 : goal.returns-then-parent-eq0
-returns-then-parent-eq0 c m all same =
+returns-then-parent-eq0 c m all =
     let arcs = c.args.arcs.now in
     let now = c.args.self.now in
     let t = time_at now.times in
@@ -28,11 +28,11 @@ returns-then-parent-eq0 c m all same =
     subst (λ s. Contradictory m (last_first (set c.loop-i.steps i s) (i + 1))) (sym c.floor_to.ensures)
     (⊎_elim
     (λ (ring : RingAt arcs t par c.args.r). absurd (ring_raised arcs (λ _. 0) t par c.requires.rising 0 (λ e h. omega arith) c.args.r c.loop-i.steps i c.loop-i.at c.loop-i.invariant ring few none))
-    (λ (lifted : (c.args.r ≡ 0) × ((1 ≤ t 0) × Rooted arcs t par 102398976 (arcs.events + 1) 0)). ring_floored arcs (λ _. 0) t par c.requires.rising 0 (λ e h. omega arith) c.args.r c.loop-i.steps i c.loop-i.at c.loop-i.invariant room none lifted.0 (λ e. refl) lifted.1.0 few m all same)
+    (λ (lifted : (c.args.r ≡ 0) × ((1 ≤ t 0) × Rooted arcs t par 102398976 (arcs.events + 1) 0)). ring_floored arcs (λ _. 0) t par c.requires.rising 0 (λ e h. omega arith) c.args.r c.loop-i.steps i c.loop-i.at c.loop-i.invariant room none lifted.0 (λ e. refl) lifted.1.0 few m all)
     c.requires.ends)
 
 pub returns-then-at-r : goal.returns-then-at-r
-returns-then-at-r c m all same =
+returns-then-at-r c m all =
     let arcs = c.args.arcs.now in
     let now = c.args.self.now in
     let i = c.loop-i.i in
@@ -42,7 +42,7 @@ returns-then-at-r c m all same =
     let some : 1 ≤ time_at now.parents c.loop-i.at = omega arith in
     let is = c.step_of.ensures ∙ ap (λ p. step_of (arc_at arcs.arcs (p - 1))) c.from.ensures in
     let next : c.from-at.result ≡ (parent_of arcs (time_at now.parents) c.loop-i.at).left = c.from-at.ensures ∙ ap (λ p. (arc_at arcs.arcs (p - 1)).left) c.from.ensures in
-    ring_closed arcs (λ _. 0) (time_at now.times) (time_at now.parents) c.requires.rising 0 (λ e h. omega arith) c.args.r c.loop-i.steps i c.loop-i.at c.loop-i.invariant room some c.step_of.result is (sym next ∙ c.if-at-r.true) few m all same
+    ring_closed arcs (λ _. 0) (time_at now.times) (time_at now.parents) c.requires.rising 0 (λ e h. omega arith) c.args.r c.loop-i.steps i c.loop-i.at c.loop-i.invariant room some c.step_of.result is (sym next ∙ c.if-at-r.true) few m all
 
 -- the climb goes on
 further : (c : Else-at-r) → Climb c.args.arcs.now (time_at c.args.self.now.times) (time_at c.args.self.now.parents) c.args.r (set c.loop-i.steps c.loop-i.i c.step_of.result) (c.loop-i.i + 1) c.from-at.result
