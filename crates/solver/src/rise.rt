@@ -5,6 +5,7 @@ ghost use Rattle.std.specs.Prelude.{◌≡◌, length};
 mod begin;
 mod longest;
 mod look;
+mod parent;
 mod settle;
 mod sweep;
 

@@ -55,15 +55,14 @@ impl Rise {
         let mut at = r;
         // the index is where a step stands in the table, which is filled where it stands; at most N + 1 steps show that it ends
         for i in 0..=arcs.events {
-            let parent = self.parents[at];
-            if parent == 0 {
+            let Some(k) = self.parent(at) else {
                 steps[i] = floor_to(at);
                 return Ring {
                     steps,
                     count: i + 1,
                 };
-            }
-            let arc = arcs.arcs[usize::from(parent) - 1];
+            };
+            let arc = arcs.arcs[k];
             steps[i] = step_of(arc);
             at = usize::from(arc.left);
             if at == r {

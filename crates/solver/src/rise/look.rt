@@ -24,11 +24,10 @@ impl Rise {
         // a mark is the number of a walk, or 0 and not an Option, which takes twice the stack; the walk follows parents, not an index
         while marks[at] == 0 {
             marks[at] = own;
-            let parent = self.parents[at];
-            if parent == 0 {
+            let Some(k) = self.parent(at) else {
                 return None;
-            }
-            at = usize::from(arcs.arcs[usize::from(parent) - 1].left);
+            };
+            at = usize::from(arcs.arcs[k].left);
         }
         if marks[at] == own { Some(at) } else { None }
     }
