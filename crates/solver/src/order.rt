@@ -12,7 +12,7 @@ mod parts;
 mod visit;
 
 /// Indices of arcs, in the order in which to look at them. An arc stands in it once or twice.
-// a table of fixed size with its length beside: the engine has no heap, and it is filled where it stands
+// A table of fixed size with its length beside: the engine has no heap, and it is filled where it stands.
 #[derive(Drop)]
 pub(crate) struct Order {
     pub indices: [u16; 8192],

@@ -24,11 +24,15 @@ pub(crate) fn link(table: &[u16], index: usize) -> Option<usize> {
 
 /// Writes a number at an index, counted from 1, or 0 for none.
 pub(crate) fn write_link(table: &mut [u16], index: usize, number: Option<usize>) {
-    write(table, index, number.map_or(0, |value| value.saturating_add(1)));
+    write(
+        table,
+        index,
+        number.map_or(0, |value| value.saturating_add(1)),
+    );
 }
 
 /// For each event, or each part, a list of numbers from 0 to N - 1: each with the next one, counted from 1, or 0 at the end.
-// lists in two tables, with 0 and not an Option: the engine has no heap, and an Option takes twice the stack
+// Lists in two tables, with 0 for none: the engine has no heap, and an Option takes twice the stack.
 #[derive(Drop)]
 pub(crate) struct Lists<const N: usize> {
     pub heads: [u16; 1024],
@@ -66,7 +70,7 @@ impl<const N: usize> Lists<N> {
 }
 
 /// The members of a list that are still to come, at most `left`, and the next of them.
-// `left` is a count, so that the iteration is known to end: nothing is known of the list itself
+// `left` is a count, so that the iteration is known to end: nothing is known of the list itself.
 #[derive(Drop)]
 pub(crate) struct Members<'a, const N: usize> {
     nexts: &'a [u16],

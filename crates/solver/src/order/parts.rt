@@ -7,7 +7,7 @@ use crate::order::visit::{Visit, by_number, left_in_turn, turned};
 /// The events of each part.
 pub(crate) type Parts = Lists<1024>;
 
-/// For each event the number of its part: a part comes after those that lead to it. Of the events as a
+/// For each event the number of its part, as `link` reads it: a part comes after those that lead to it. Of the events as a
 /// visit along the arcs left them, the last is in the first part, with all that lead to it, and so on.
 fn numbers(arcs: &Arcs, left: &[u16; 1024]) -> [u16; 1024] {
     let reaching = reaching(arcs);

@@ -4,9 +4,10 @@ use crate::arc::Arc;
 use crate::arcs::Arcs;
 use crate::order::lists::{ArcLists, at, link, write, write_link};
 
-/// A visit along the arcs of a list for each event: how far the list of each event is followed, which events are seen,
-/// which are on the way and which are left.
-// tables of fixed size, two with their lengths beside, and 0 for none: the engine has no heap, and an Option takes twice the stack
+/// A visit along the arcs of a list for each event: how far the list of each event is followed, which events are seen
+/// and with what mark, which are on the way and which are left.
+// Tables of fixed size, two with their lengths beside: the engine has no heap.
+// 0 stands for none in `cursors` and `seen`: an Option takes twice the stack.
 #[derive(Drop)]
 pub(crate) struct Visit<'a> {
     listed: &'a ArcLists<'a>,
@@ -77,7 +78,7 @@ impl<'a> Visit<'a> {
     /// lists each as it is left.
     pub(crate) fn go(&mut self, first: usize, mark: usize) {
         self.enter(first, mark);
-        // a count and not a test alone, so that it is known to end: every step leaves an event or takes up an arc
+        // A count, so that the visit is known to end: every step leaves an event or takes up an arc.
         for _ in 0..5_120 {
             let Some(here) = self.here() else {
                 break;

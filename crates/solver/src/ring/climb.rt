@@ -53,7 +53,8 @@ impl Rise {
     {
         let mut steps = [floor_to(0); 1024];
         let mut at = r;
-        // the index is where a step stands in the table, which is filled where it stands; at most N + 1 steps show that it ends
+        // The index is where a step stands in the table, which is filled where it stands.
+        // At most N + 1 steps are counted, so that the climb is known to end.
         for i in 0..=arcs.events {
             let Some(k) = self.parent(at) else {
                 steps[i] = floor_to(at);
