@@ -10,7 +10,8 @@ use Rattle.network.specs.Rings.{StepOf, Leads, sum_days, Contradictory}
 use Rattle.network.proofs.Contradictions.{no_ring}
 use Rattle.solver.specs.declared.arc.Arc.{Arc}
 use Rattle.solver.specs.declared.arcs.Arcs.{Arcs}
-use Rattle.solver.specs.Arcs.{ArcOf, Gathered}
+use Rattle.solver.specs.Arcs.{ArcOf}
+use Rattle.solver.specs.Copies.{GatheredFrom}
 use Rattle.solver.specs.Rising.{Raised, Rising, parent_of}
 use Rattle.solver.specs.RingSteps.{step_of, floor_to, last_first, Ends}
 use Rattle.solver.specs.Walks.{before, ups, RingAt}
@@ -130,7 +131,7 @@ module _ (arcs : Arcs) (start t par : ℕ → ℕ) (rising : Rising arcs start t
     was : (j : ℕ) → j < n → Raised arcs rising.order t par (u j)
     was j l = was_raised arcs start t par rising S starts (u j) (way.inside j (omega arith)) (way.raised j l)
 
-    leads : (m : Meaning) → Gathered m arcs.arcs arcs.count → (k : ℕ) → k ≤ n → Leads m (u k) (last_first xs k) r
+    leads : (m : Meaning) → GatheredFrom m arcs → (k : ℕ) → k ≤ n → Leads m (u k) (last_first xs k) r
     unfolding last_first
     leads m all zero h = u_zero
     leads m all (suc k) h =
@@ -138,7 +139,7 @@ module _ (arcs : Arcs) (start t par : ℕ → ℕ) (rising : Rising arcs start t
         let is = way.taken k (omega arith) in
         let a = parent_of arcs par (u k) in
         let one : suc k ≡ k + 1 = omega arith in
-        let arc = all.each (par (u k) - 1) (omega (arith, raised.some, raised.low)) in (
+        let arc = all.gaps.each (par (u k) - 1) (omega (arith, raised.some, raised.low)) in (
           subst (StepOf m) (sym is) (arc_step m a arc),
           ap (λ (s : Step). s.gap.left) is ∙ sym (ap u one ∙ u_one k),
           subst (λ e. Leads m e (last_first xs k) r) (sym (ap (λ (s : Step). s.gap.reached) is ∙ raised.reaches)) (leads m all k (omega arith)),
@@ -172,8 +173,9 @@ module _ (arcs : Arcs) (start t par : ℕ → ℕ) (rising : Rising arcs start t
         (gained k (omega arith))
 
     -- a climb that comes back
-    pub closed_ring : (m : Meaning) → Gathered m arcs.arcs arcs.count → m.events ≡ arcs.events → 1 ≤ n → n ≤ arcs.events + 1 → u n ≡ r → Contradictory m (last_first xs n)
-    closed_ring m all same some few back =
+    pub closed_ring : (m : Meaning) → GatheredFrom m arcs → 1 ≤ n → n ≤ arcs.events + 1 → u n ≡ r → Contradictory m (last_first xs n)
+    closed_ring m all some few back =
+        let same = all.events in
         let around = subst (λ e. Leads m e (last_first xs n) r) back (leads m all n (omega arith)) in
         let tb = ap t back in
         let ob = ap rising.order back in
@@ -192,8 +194,9 @@ module _ (arcs : Arcs) (start t par : ℕ → ℕ) (rising : Rising arcs start t
         }
 
     -- a climb from event 0 that ends: the floor closes it
-    pub floor_ring : (m : Meaning) → Gathered m arcs.arcs arcs.count → m.events ≡ arcs.events → r ≡ 0 → n < arcs.events + 1 → t (u n) ≡ 0 → 1 ≤ t r → get_or xs n (floor_to 0) ≡ floor_to (u n) → Contradictory m (last_first xs (n + 1))
-    floor_ring m all same first few low high is =
+    pub floor_ring : (m : Meaning) → GatheredFrom m arcs → r ≡ 0 → n < arcs.events + 1 → t (u n) ≡ 0 → 1 ≤ t r → get_or xs n (floor_to 0) ≡ floor_to (u n) → Contradictory m (last_first xs (n + 1))
+    floor_ring m all first few low high is =
+        let same = all.events in
         let list = last_first_more xs n ∙ ap (λ s. s ∷ last_first xs n) is in
         let Way-up = leads m all n (omega arith) in
         let inside = way.inside n (omega arith) in
@@ -215,13 +218,13 @@ module _ (arcs : Arcs) (start t par : ℕ → ℕ) (rising : Rising arcs start t
   -- what a climb ends in
   module _ (steps : List Step) (i at : ℕ) (climb : Climb arcs t par r steps i at) (room : i < 1024) where
     pub ring_closed : (some : 1 ≤ par at) (step : Step) (is : step ≡ step_of (parent_of arcs par at)) → before arcs t par at ≡ r → i < arcs.events + 1
-        → (m : Meaning) → Gathered m arcs.arcs arcs.count → m.events ≡ arcs.events → Contradictory m (last_first (set steps i step) (i + 1))
-    ring_closed some step is back few m all same =
-        closed_ring (set steps i step) (i + 1) (way_closed steps i at climb room some step is) m all same (omega arith) (omega arith) (next_is steps i at climb room some step is ∙ back)
+        → (m : Meaning) → GatheredFrom m arcs → Contradictory m (last_first (set steps i step) (i + 1))
+    ring_closed some step is back few m all =
+        closed_ring (set steps i step) (i + 1) (way_closed steps i at climb room some step is) m all (omega arith) (omega arith) (next_is steps i at climb room some step is ∙ back)
 
     pub ring_floored : par at ≡ 0 → r ≡ 0 → ((e : ℕ) → start e ≡ 0) → 1 ≤ t 0 → i < arcs.events + 1
-        → (m : Meaning) → Gathered m arcs.arcs arcs.count → m.events ≡ arcs.events → Contradictory m (last_first (set steps i (floor_to at)) (i + 1))
-    ring_floored none first noughts high few m all same =
+        → (m : Meaning) → GatheredFrom m arcs → Contradictory m (last_first (set steps i (floor_to at)) (i + 1))
+    ring_floored none first noughts high few m all =
         let inside : at ≤ arcs.events = (let x = climb.inside i (omega arith) in omega (arith, climb.there)) in
         let low : t at ≡ 0 = ⊎_elim
         (λ (root : (par at ≡ 0) × (t at ≡ start at)). root.1 ∙ noughts at)
@@ -232,7 +235,7 @@ module _ (arcs : Arcs) (start t par : ℕ → ℕ) (rising : Rising arcs start t
           inside = climb.inside;
           raised = climb.raised;
           taken = λ j l. (let ne : j ≢ i = omega arith in get_or-set_other steps i j (floor_to at) (floor_to 0) ne) ∙ climb.taken j l;
-        }) m all same first few (ap t climb.there ∙ low) (let x = ap t first in omega arith)
+        }) m all first few (ap t climb.there ∙ low) (let x = ap t first in omega arith)
         (get_or-set_same steps i (floor_to at) (floor_to 0) (omega (arith, climb.long)) ∙ ap floor_to (sym climb.there))
 
   module _ (steps : List Step) (i at : ℕ) (climb : Climb arcs t par r steps i at) where

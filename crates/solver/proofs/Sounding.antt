@@ -11,7 +11,8 @@ use Rattle.network.proofs.Lengths.{greatest_bounds, greatest_least, greatest_gro
 use Rattle.network.proofs.Windows.{windows_sound}
 use Rattle.solver.specs.declared.arc.Arc.{Arc}
 use Rattle.solver.specs.declared.arcs.Arcs.{Arcs}
-use Rattle.solver.specs.Arcs.{MeetsArc, SameGap, arc_at, Gathered}
+use Rattle.solver.specs.Arcs.{MeetsArc, SameGap, arc_at}
+use Rattle.solver.specs.Copies.{GatheredFrom}
 use Rattle.solver.specs.Rising.{time_at, Keeps, Rising}
 use Rattle.solver.specs.Falling.{Fallen}
 
@@ -50,14 +51,14 @@ module _ (ls₀ : List ℕ) (T events : ℕ) (first : time_at ls₀ 0 ≡ 0) (du
       (λ (other : e ≡ 0 → ⊥). let y = due e (omega arith) h in omega arith)
       (cases_eq e 0)
 
-module _ (m : Meaning) (arcs : Arcs) (all : Gathered m arcs.arcs arcs.count) (same-events : m.events ≡ arcs.events) where
+module _ (m : Meaning) (arcs : Arcs) (all : GatheredFrom m arcs) where
   pub schedule_keeps : (t : ℕ → ℕ) → Schedule m t → Keeps arcs t
-  schedule_keeps t keeps k h = let of = all.each k h in to_arc m.events t (arc_at arcs.arcs k) of.gap of.same (keeps.meets (arc_at arcs.arcs k).place of.gap of.there)
+  schedule_keeps t keeps k h = let of = all.gaps.each k h in to_arc m.events t (arc_at arcs.arcs k) of.gap of.same (keeps.meets (arc_at arcs.arcs k).place of.gap of.there)
 
   pub keeps_schedule : (t : ℕ → ℕ) → t 0 ≡ 0 → Keeps arcs t → Schedule m t
   keeps_schedule t first keeps = record {
     begins = first;
-    meets = λ p g at. let found = all.every p g at in to_gap m.events t (arc_at arcs.arcs found.index) g found.same (keeps found.index found.low);
+    meets = λ p g at. let found = all.gaps.every p g at in to_gap m.events t (arc_at arcs.arcs found.index) g found.same (keeps found.index found.low);
   }
 
   -- earliest times at rest, and latest times that fell from their length
@@ -65,6 +66,7 @@ module _ (m : Meaning) (arcs : Arcs) (all : Gathered m arcs.arcs arcs.count) (sa
       → (ls₀ ls : List ℕ) → Fallen arcs ls₀ ls → (T : ℕ) → T ≡ greatest t arcs.events → time_at ls₀ 0 ≡ 0 → ((e : ℕ) → 1 ≤ e → e ≤ arcs.events → time_at ls₀ e ≡ T)
       → Sound m t (time_at ls) T
   rest_sound t par rising first keeps ls₀ ls fallen T is zero-first due =
+      let same-events = all.events in
       let bounded = under_due ls₀ T arcs.events zero-first due in
       let over = fallen.most t keeps (bounded t first (omega arith)) in
       let low = greatest_grows t (time_at ls) arcs.events over in

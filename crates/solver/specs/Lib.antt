@@ -1,4 +1,5 @@
 pub mod Arcs
+pub mod Copies
 pub mod Rising
 pub mod Walks
 pub mod RingSteps

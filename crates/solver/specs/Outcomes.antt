@@ -4,6 +4,7 @@ use Rattle.std.specs.Prelude.{◌≡◌, ℕ, ◌≤◌, Ok, Err, Result}
 use Rattle.network.specs.Schedules.{greatest}
 use Rattle.solver.specs.declared.arcs.Arcs.{Arcs}
 use Rattle.solver.specs.declared.rise.Rise.{Rise}
+use Rattle.solver.specs.declared.rise.settle.RingFrom.{RingFrom}
 use Rattle.solver.specs.Rising.{time_at, Keeps, Carries}
 use Rattle.solver.specs.RingSteps.{Ends}
 
@@ -19,6 +20,6 @@ module _ (arcs : Arcs) (was rise : Rise) where
     pub inside : r ≤ arcs.events
     pub ends : Ends arcs (time_at rise.times) (time_at rise.parents) r
 
-  abbrev pub Outcome : Result (Unit {0}) ℕ → Type 0
+  abbrev pub Outcome : Result (Unit {0}) RingFrom → Type 0
   Outcome (Ok _) = AtRest
-  Outcome (Err r) = Ringed r
+  Outcome (Err r) = Ringed r.event

@@ -8,7 +8,7 @@ use crate::arc::Arc;
 mod gather;
 
 /// The standing gaps, from 0 to `count`, between events 0 to `events`.
-// a table of fixed size with its length beside: the engine has no heap, and the table is filled where it stands
+// A table of fixed size with its length beside: the engine has no heap, and the table is filled where it stands.
 #[derive(Drop)]
 pub(crate) struct Arcs {
     pub arcs: [Arc; 4096],

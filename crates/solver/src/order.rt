@@ -4,7 +4,7 @@
 ghost use Rattle.std.specs.Prelude.{◌≤◌, length};
 
 use crate::arcs::Arcs;
-use crate::order::lists::{Lists, leaving, write};
+use crate::order::lists::{ArcLists, leaving, write};
 use crate::order::parts::{Parts, parts_both_ways};
 
 mod lists;
@@ -12,7 +12,7 @@ mod parts;
 mod visit;
 
 /// Indices of arcs, in the order in which to look at them. An arc stands in it once or twice.
-// a table of fixed size with its length beside: the engine has no heap, and it is filled where it stands
+// A table of fixed size with its length beside: the engine has no heap, and it is filled where it stands.
 #[derive(Drop)]
 pub(crate) struct Order {
     pub indices: [u16; 8192],
@@ -29,9 +29,9 @@ impl Order {
     }
 
     /// Adds the arcs that leave the events of a part.
-    fn add_part(&mut self, leaving: &Lists<4096>, parts: &Parts, part: usize) {
+    fn add_part(&mut self, leaving: &ArcLists, parts: &Parts, part: usize) {
         for event in parts.members(part) {
-            for arc in leaving.members(event) {
+            for arc in leaving.lists.members(event) {
                 write(&mut self.indices, self.count, arc);
                 self.count = self.count.saturating_add(1);
             }
@@ -53,7 +53,7 @@ impl Order {
     /// a larger part is gone through there and back.
     pub(crate) fn follow(&mut self, arcs: &Arcs) {
         let leaving = leaving(arcs);
-        let (there, back) = parts_both_ways(arcs, &leaving);
+        let (there, back) = parts_both_ways(&leaving);
         for part in 0..=arcs.events {
             self.add_part(&leaving, &there, part);
             if there.has_many(part) {

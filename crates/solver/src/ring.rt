@@ -8,7 +8,7 @@ mod climb;
 mod readings;
 
 /// The steps of a ring, the last first.
-// a table of fixed size with its length beside, as the engine has no heap
+// A table of fixed size with its length beside: the engine has no heap.
 #[derive(Drop)]
 pub struct Ring {
     steps: [Step; 1024],

@@ -21,6 +21,6 @@ pub fn solve<N: Network>(network: &N) -> Result<Times, Ring>
     order.follow(&arcs);
     match rise.settle(&arcs, &order) {
         Ok(()) => Ok(windows_of(&arcs, &order, &rise)),
-        Err(r) => Err(rise.ring_from(&arcs, r)),
+        Err(r) => Err(rise.ring_from(&arcs, r.event)),
     }
 }

@@ -9,7 +9,7 @@ pub(crate) use crate::times::windows::windows as windows_of;
 
 /// The earliest and the latest time of each event from 0 to `events`, and the length:
 /// no event's earliest time passes its latest, and no latest time passes the length.
-// two tables and not one of pairs: each is made by passes over it alone, and stands as they left it
+// Two tables and not one of pairs: each is made by passes over it alone, and stands as they left it.
 #[derive(Drop)]
 pub struct Times {
     events: usize,

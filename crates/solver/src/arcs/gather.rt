@@ -1,7 +1,8 @@
 //! Copies the gaps of a network.
 
 ghost use Rattle.std.specs.Prelude.{◌≡◌, ℕ, ◌<◌, ◌≤◌, length, IfSome, pos, negsuc, ◌+ℤ◌, ◌≤ℤ◌};
-ghost use Rattle.solver.specs.Arcs.{Gathered, SameGap, arc_at};
+ghost use Rattle.solver.specs.Arcs.{SameGap, arc_at};
+ghost use Rattle.solver.specs.Copies.{GatheredFrom};
 ghost use Rattle.network.specs.Meanings.{Bounded};
 
 use crate::arc::Arc;
@@ -84,8 +85,7 @@ impl Arcs {
     pub(crate) fn take<N: Network>(&mut self, network: &N)
         requires count { self.old.count ≡ 0 }
         requires events { self.old.events ≡ (N.Network.network network.now).events }
-        ensures events { self.new.events ≡ (N.Network.network network.now).events }
-        ensures gaps { Gathered (N.Network.network network.now) self.new.arcs self.new.count }
+        ensures { GatheredFrom (N.Network.network network.now) self.new }
     {
         for place in 1..=network.places() {
             if let Some(gap) = network.gap(place) {

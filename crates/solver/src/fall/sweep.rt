@@ -50,7 +50,7 @@ impl Fall {
     {
         let mut changed = false;
         for arc in arcs.all() {
-            // `|=` has no branch, so every arc is looked at
+            // `|=` has no branch, so every arc is looked at.
             changed |= self.lower(*arc);
         }
         changed

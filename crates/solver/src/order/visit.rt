@@ -2,12 +2,15 @@
 
 use crate::arc::Arc;
 use crate::arcs::Arcs;
-use crate::order::lists::{Lists, at, write};
+use crate::order::lists::{ArcLists, at, link, write, write_link};
 
-/// How far the list of each event is followed, which events are seen, which are on the way and which are left.
-// tables of fixed size, two with their lengths beside, and 0 for none: the engine has no heap, and an Option takes twice the stack
+/// A visit along the arcs of a list for each event: how far the list of each event is followed, which events are seen
+/// and with what mark, which are on the way and which are left.
+// Tables of fixed size, two with their lengths beside: the engine has no heap.
+// 0 stands for none in `cursors` and `seen`: an Option takes twice the stack.
 #[derive(Drop)]
-pub(crate) struct Visit {
+pub(crate) struct Visit<'a> {
+    listed: &'a ArcLists<'a>,
     cursors: [u16; 1024],
     pub seen: [u16; 1024],
     way: [u16; 1024],
@@ -26,12 +29,12 @@ fn other_end(arc: Arc, event: usize) -> usize {
     }
 }
 
-impl Visit {
+impl<'a> Visit<'a> {
     /// No event is seen yet, and each list is at its beginning.
-    pub(crate) fn over(lists: &Lists<4096>) -> Visit {
-        let cursors = lists.heads;
+    pub(crate) fn over(listed: &'a ArcLists<'a>) -> Visit<'a> {
         Visit {
-            cursors,
+            listed,
+            cursors: listed.lists.heads,
             seen: [0; 1024],
             way: [0; 1024],
             depth: 0,
@@ -42,12 +45,12 @@ impl Visit {
 
     /// Whether an event is seen.
     pub(crate) fn has_seen(&self, event: usize) -> bool {
-        at(&self.seen, event) > 0
+        link(&self.seen, event).is_some()
     }
 
     /// Marks an event as seen, and goes on from it.
     fn enter(&mut self, event: usize, mark: usize) {
-        write(&mut self.seen, event, mark);
+        write_link(&mut self.seen, event, Some(mark));
         write(&mut self.way, self.depth, event);
         self.depth = self.depth.saturating_add(1);
     }
@@ -59,25 +62,28 @@ impl Visit {
         self.depth = self.depth.saturating_sub(1);
     }
 
+    /// The last event on the way.
+    fn here(&self) -> Option<usize> {
+        at(&self.way, self.depth.checked_sub(1)?)
+    }
+
     /// Takes up the next arc of an event.
-    fn take_arc(&mut self, lists: &Lists<4096>, event: usize) -> Option<usize> {
-        let k = at(&self.cursors, event).checked_sub(1)?;
-        write(&mut self.cursors, event, at(&lists.nexts, k));
-        Some(k)
+    fn take_arc(&mut self, event: usize) -> Option<Arc> {
+        let k = link(&self.cursors, event)?;
+        write_link(&mut self.cursors, event, link(&self.listed.lists.nexts, k));
+        self.listed.arcs.get(k)
     }
 
     /// Visits the events that arcs lead to from an event, where they are not seen yet. Marks each as it is come upon, and
     /// lists each as it is left.
-    pub(crate) fn go(&mut self, arcs: &Arcs, lists: &Lists<4096>, first: usize, mark: usize) {
+    pub(crate) fn go(&mut self, first: usize, mark: usize) {
         self.enter(first, mark);
-        // a count and not a test alone, so that it is known to end: every step leaves an event or takes up an arc
+        // A count, so that the visit is known to end: every step leaves an event or takes up an arc.
         for _ in 0..5_120 {
-            if self.depth == 0 {
+            let Some(here) = self.here() else {
                 break;
-            }
-            let here = at(&self.way, self.depth - 1);
-            let taken = self.take_arc(lists, here);
-            match taken.and_then(|k| arcs.get(k)) {
+            };
+            match self.take_arc(here) {
                 None => self.leave(here),
                 Some(arc) => {
                     let next = other_end(arc, here);
@@ -92,11 +98,7 @@ impl Visit {
 
 /// The numbers of the events.
 pub(crate) fn by_number() -> [u16; 1024] {
-    let mut events = [0; 1024];
-    for (event, place) in (0..1024).zip(events.iter_mut()) {
-        *place = event;
-    }
-    events
+    std::array::from_fn(|event| event as u16)
 }
 
 /// The events the other way round.
@@ -108,12 +110,12 @@ pub(crate) fn turned(arcs: &Arcs, events: &[u16; 1024]) -> [u16; 1024] {
 
 /// The events, each after those to which arcs lead from it, but for arcs that lead back. The visit begins at the first of
 /// `begins`, and then at each that is not seen yet.
-pub(crate) fn left_in_turn(arcs: &Arcs, lists: &Lists<4096>, begins: &[u16; 1024]) -> [u16; 1024] {
-    let mut visit = Visit::over(lists);
-    for first in &begins[..=arcs.events] {
+pub(crate) fn left_in_turn(listed: &ArcLists, begins: &[u16; 1024]) -> [u16; 1024] {
+    let mut visit = Visit::over(listed);
+    for first in &begins[..=listed.arcs.events] {
         let first = usize::from(*first);
         if !visit.has_seen(first) {
-            visit.go(arcs, lists, first, 1);
+            visit.go(first, 0);
         }
     }
     visit.left

@@ -3,7 +3,7 @@
 ghost use Rattle.std.specs.Prelude.{◌≡◌, ◌≤◌, length};
 ghost use Rattle.network.specs.Meanings.{Meaning};
 ghost use Rattle.network.specs.Rings.{Contradictory};
-ghost use Rattle.solver.specs.Arcs.{Gathered};
+ghost use Rattle.solver.specs.Copies.{GatheredFrom};
 ghost use Rattle.solver.specs.Rising.{time_at, Rising};
 ghost use Rattle.solver.specs.RingSteps.{step_of, floor_to, ring_steps, Ends};
 
@@ -49,21 +49,21 @@ impl Rise {
         requires rising { Rising arcs.now (λ _. 0) (time_at self.now.times) (time_at self.now.parents) }
         requires inside { r ≤ arcs.now.events }
         requires ends { Ends arcs.now (time_at self.now.times) (time_at self.now.parents) r }
-        ensures { (m : Meaning) → Gathered m arcs.now.arcs arcs.now.count → m.events ≡ arcs.now.events → Contradictory m (ring_steps result) }
+        ensures { (m : Meaning) → GatheredFrom m arcs.now → Contradictory m (ring_steps result) }
     {
         let mut steps = [floor_to(0); 1024];
         let mut at = r;
-        // the index is where a step stands in the table, which is filled where it stands; at most N + 1 steps show that it ends
+        // The index is where a step stands in the table, which is filled where it stands.
+        // At most N + 1 steps are counted, so that the climb is known to end.
         for i in 0..=arcs.events {
-            let parent = self.parents[at];
-            if parent == 0 {
+            let Some(k) = self.parent(at) else {
                 steps[i] = floor_to(at);
                 return Ring {
                     steps,
                     count: i + 1,
                 };
-            }
-            let arc = arcs.arcs[usize::from(parent) - 1];
+            };
+            let arc = arcs.arcs[k];
             steps[i] = step_of(arc);
             at = usize::from(arc.left);
             if at == r {

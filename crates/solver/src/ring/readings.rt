@@ -18,7 +18,7 @@ impl Ring {
     pub fn step(&self, n: usize) -> Option<Step>
         ensures { result ≡ (if leb 1 n && nat_le n (length (ring_steps self.now)) then Some (slice_index_or (ring_steps self.now) (n - 1) (floor_to 0)) else None) }
     {
-        if 1 <= n && n <= self.count {
+        if (1..=self.count).contains(&n) {
             Some(self.steps[self.count - n])
         } else {
             None

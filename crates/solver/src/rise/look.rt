@@ -21,14 +21,14 @@ impl Rise {
     {
         let own = (e + 1) as u16;
         let mut at = e;
-        // a mark is the number of a walk, or 0 and not an Option, which takes twice the stack; the walk follows parents, not an index
+        // A mark is the number of a walk, or 0 for none: an Option takes twice the stack.
+        // The walk follows parents, so there is no index to go over.
         while marks[at] == 0 {
             marks[at] = own;
-            let parent = self.parents[at];
-            if parent == 0 {
+            let Some(k) = self.parent(at) else {
                 return None;
-            }
-            at = usize::from(arcs.arcs[usize::from(parent) - 1].left);
+            };
+            at = usize::from(arcs.arcs[k].left);
         }
         if marks[at] == own { Some(at) } else { None }
     }
@@ -39,6 +39,7 @@ impl Rise {
         ensures { Looked arcs.now self.now result }
     {
         let mut marks = [0; 1024];
+        // `find_map` was tried: its closure has to repeat the clauses of `walk` about the marks, so it is no plainer.
         for e in 0..=arcs.events {
             if let Some(r) = self.walk(arcs, &mut marks, e) {
                 return Some(r);

@@ -51,7 +51,7 @@ impl Rise {
     {
         let mut changed = false;
         for (k, arc) in arcs.all().iter().enumerate() {
-            // `|=` has no branch, so every arc is looked at
+            // `|=` has no branch, so every arc is looked at.
             changed |= self.raise(k, *arc);
         }
         changed

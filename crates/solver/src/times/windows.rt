@@ -3,7 +3,7 @@
 ghost use Rattle.std.specs.Prelude.{◌≡◌, ℕ, ◌≤◌, length as size};
 ghost use Rattle.network.specs.Meanings.{Meaning};
 ghost use Rattle.network.specs.Schedules.{greatest, Sound};
-ghost use Rattle.solver.specs.Arcs.{Gathered};
+ghost use Rattle.solver.specs.Copies.{GatheredFrom};
 ghost use Rattle.solver.specs.Rising.{time_at, Keeps, Rising};
 
 use crate::arcs::Arcs;
@@ -30,7 +30,7 @@ pub(crate) fn windows(arcs: &Arcs, order: &Order, rise: &Rise) -> Times
     requires bound { greatest (time_at rise.now.times) arcs.now.events ≤ 204800000 }
     requires keeps { Keeps arcs.now (time_at rise.now.times) }
     ensures events { result.events ≡ arcs.now.events }
-    ensures sound { (m : Meaning) → Gathered m arcs.now.arcs arcs.now.count → m.events ≡ arcs.now.events → Sound m (time_at result.earliest) (time_at result.latest) result.length }
+    ensures sound { (m : Meaning) → GatheredFrom m arcs.now → Sound m (time_at result.earliest) (time_at result.latest) result.length }
 {
     let earliest = rise.times;
     let length = longest(&earliest, arcs.events);

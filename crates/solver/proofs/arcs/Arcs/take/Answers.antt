@@ -70,15 +70,18 @@ taken g c =
 pub loop-place-preserved : goal.loop-place-preserved
 loop-place-preserved g c = taken g (goal.at.loop-place-preserved g c).Joined-gap
 
-pub returns-after-gap-clause-gaps : goal.returns-after-gap-clause-gaps
-returns-after-gap-clause-gaps g c =
-    gathered_all (g.N.Network.network c.args.network.now) c.match-gap.self.arcs c.match-gap.self.count (c.loop-place.place + 1) (g.met.N.Network.lawful c.args.network.now)
-    (taken g (goal.at.returns-after-gap-clause-gaps g c).Joined-gap).0 (omega arith)
+pub returns-after-gap : goal.returns-after-gap
+returns-after-gap g c =
+    let so = taken g (goal.at.returns-after-gap g c).Joined-gap in
+    record {
+      gaps = gathered_all (g.N.Network.network c.args.network.now) c.match-gap.self.arcs c.match-gap.self.count (c.loop-place.place + 1) (g.met.N.Network.lawful c.args.network.now) so.0 (omega arith);
+      events = sym (so.1 ∙ c.requires.events);
+    }
 
 pub returns : goal.returns
 returns g c =
     let m = g.N.Network.network c.args.network.now in
     record {
-      events = c.loop-place.invariant.1 ∙ c.requires.events;
+      events = sym (c.loop-place.invariant.1 ∙ c.requires.events);
       gaps = gathered_all m c.loop-place.self.arcs c.loop-place.self.count c.loop-place.place (g.met.N.Network.lawful c.args.network.now) c.loop-place.invariant.0 (search rules);
     }

@@ -13,14 +13,14 @@ loop-marks-init c =
     let risen = c.requires.risen in
     midway_none arcs risen.start (time_at ts) (time_at ps) risen.rising 102398976 risen.starts c.args.marks.now c.args.e c.requires.inside c.requires.long c.requires.ids c.requires.rooted
 
-pub returns-then-parent-eq0 : goal.returns-then-parent-eq0
-returns-then-parent-eq0 c =
+pub returns-in_default : goal.returns-in_default
+returns-in_default c =
     let arcs = c.args.arcs.now in
     let ts = c.args.self.now.times in
     let ps = c.args.self.now.parents in
     let risen = c.requires.risen in
     record {
-      found = walked_end arcs risen.start (time_at ts) (time_at ps) risen.rising 102398976 risen.starts c.args.marks.now c.loop-marks.marks c.args.e c.loop-marks.at c.loop-marks.invariant c.loop-marks-test.true c.if-parent-eq0.true;
+      found = walked_end arcs risen.start (time_at ts) (time_at ps) risen.rising 102398976 risen.starts c.args.marks.now c.loop-marks.marks c.args.e c.loop-marks.at c.loop-marks.invariant c.loop-marks-test.true c.in_default.ensures;
       size = length-set c.loop-marks.marks c.loop-marks.at (c.args.e + 1) ∙ c.loop-marks.invariant.long;
     }
 
@@ -40,8 +40,9 @@ loop-marks-preserved c =
     let ts = c.args.self.now.times in
     let ps = c.args.self.now.parents in
     let risen = c.requires.risen in
-    let some : 1 ≤ time_at ps c.loop-marks.at = omega arith in
-    let next : c.from-at.result ≡ (parent_of arcs (time_at ps) c.loop-marks.at).left = c.from-at.ensures ∙ ap (λ p. (arc_at arcs.arcs (p - 1)).left) c.from.ensures in
+    let some : 1 ≤ time_at ps c.loop-marks.at = omega (arith, c.in-Some.ensures) in
+    let own : c.in-Some.k ≡ time_at ps c.loop-marks.at - 1 = omega (arith, c.in-Some.ensures) in
+    let next : c.from-at.result ≡ (parent_of arcs (time_at ps) c.loop-marks.at).left = c.from-at.ensures ∙ ap (λ k. (arc_at arcs.arcs k).left) own in
     subst (Midway arcs (time_at ts) (time_at ps) 102398976 c.args.marks.now (set c.loop-marks.marks c.loop-marks.at (c.args.e + 1)) c.args.e) (sym next)
     (midway_next arcs risen.start (time_at ts) (time_at ps) risen.rising 102398976 risen.starts c.args.marks.now c.loop-marks.marks c.args.e c.loop-marks.at c.loop-marks.invariant c.loop-marks-test.true some)
 

@@ -41,6 +41,6 @@ returns c =
     let small = arcs.small in
     record {
       events = refl;
-      sound = λ m all same. rest_sound m arcs all same (time_at rise.times) (time_at rise.parents) c.requires.rising c.requires.first c.requires.keeps
+      sound = λ m all. rest_sound m arcs all (time_at rise.times) (time_at rise.parents) c.requires.rising c.requires.first c.requires.keeps
           c.due.result c.settle.new.self.times c.settle.ensures T c.longest-length.ensures c.due.ensures.first (λ e low high. c.due.ensures.others e low (omega arith));
     }
