@@ -51,6 +51,8 @@ impl Order {
     /// Adds the arcs part by part, each part after those that lead to it. Those of a part of more than one event are
     /// added twice, so that a whole activity, whose start and finish are tied both ways, is at rest when it is left, and
     /// a larger part is gone through there and back.
+    // Not inlined, so that its tables are on the stack for its own time alone.
+    #[inline(never)]
     pub(crate) fn follow(&mut self, arcs: &Arcs) {
         let leaving = leaving(arcs);
         let (there, back) = parts_both_ways(&leaving);

@@ -1,4 +1,4 @@
-use Rattle.std.proofs.Common.{sym, ◌∙◌, arith}
+use Rattle.std.proofs.Common.{arith}
 use Rattle.solver.proofs.Starting.{rising_none, risen_none, none_late}
 use Rattle.solver.proofs.solve.solve.Goals as goal
 
@@ -36,9 +36,6 @@ ring_from-requires g c =
       inside = ringed.inside;
       ends = ringed.ends;
     }
-
-pub returns-in-Ok : goal.returns-in-Ok
-returns-in-Ok g c = record { events = c.windows.ensures.events ∙ sym c.take.ensures.events; sound = c.windows.ensures.sound (g.N.Network.network c.args.network.now) c.take.ensures }
 
 pub returns-in-Err : goal.returns-in-Err
 returns-in-Err g c = c.ring_from.ensures (g.N.Network.network c.args.network.now) c.take.ensures
