@@ -11,7 +11,7 @@ use Rattle.forms.specs.declared.form.Item.TheVariants as item
 use Rattle.forms.specs.declared.names.ItemKind.{ItemKind}
 use Rattle.forms.specs.declared.names.ItemKind.TheVariants as kind
 use Rattle.forms.specs.Names.{item_kind_word, item_kind_at, running_at, kind_at, bound_at, item_kind_of, running_of, kind_of, bound_of}
-use Rattle.forms.specs.Parts.{amount_at, relation_at, arrow_at, item_after, item_at}
+use Rattle.forms.specs.Parts.{amount_at, activity_at, relation_at, arrow_at, item_after, item_at}
 use Rattle.forms.specs.Reading.{then, number_at, lag_at, lag_of}
 use Rattle.forms.specs.Spelling.{bracketed, running_word, kind_word, bound_word, item_words, Few, FewWork, FewItem}
 use Rattle.forms.proofs.Choosing.{FewLag, lag_words}
@@ -129,7 +129,7 @@ ItemR kind.Arrow = Made item.Arrow (Spells FewArrow arrow_text)
 
 -- the reader of what follows reads just that
 after_right : (k : ItemKind) → Right (ItemR k) (item_after k)
-unfolding ItemR item_after
+unfolding ItemR item_after activity_at
 after_right kind.Days = made_right (λ p. item.Activity (record { work = Days p.0; running = p.1 })) amount_at amount_right
 after_right kind.Hours = made_right (λ p. item.Activity (record { work = Hours p.0; running = p.1 })) amount_at amount_right
 after_right kind.Relation = made_right item.Relation relation_at relation_right

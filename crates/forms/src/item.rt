@@ -1,6 +1,8 @@
 //! What is to stand on a line of a book, as it is written between brackets.
 
-ghost use Rattle.forms.specs.Parts.{amount_at, relation_at, arrow_at, item_after, item_at};
+ghost use Rattle.std.specs.Prelude.{ℕ};
+ghost use Rattle.activity.specs.declared.entry.Work.{Work};
+ghost use Rattle.forms.specs.Parts.{amount_at, activity_at, Makes, relation_at, arrow_at, item_after, item_at};
 ghost use Rattle.forms.specs.Steps.{Takes};
 
 use crate::form::Item;
@@ -16,6 +18,17 @@ impl Reader<'_> {
         ensures { Takes amount_at self.old self.new result }
     {
         Some((self.word(b' ')?, self.word(b')')?))
+    }
+
+    /// An activity after its first word, which says what is counted, up to the closing bracket.
+    #[tactic(auto, unfolding(crate::specs::Parts::activity_at))]
+    fn activity<F: FnOnce(u32) -> Work>(&mut self, counted: F) -> Option<Item>
+        requires { F.IsAlwaysCallable counted }
+        ensures { (work : ℕ → Work) → Makes (F.post counted) work → Takes (activity_at work) self.old self.new result }
+    {
+        let (count, running) = self.amount()?;
+        let work = counted(count);
+        Some(Item::Activity(Activity { work, running }))
     }
 
     /// A relation after its first word, up to the closing bracket.
@@ -49,18 +62,9 @@ impl Reader<'_> {
     fn item_after(&mut self, kind: ItemKind) -> Option<Item>
         ensures { Takes (item_after kind) self.old self.new result }
     {
-        // An arm for days and hours would have to tell them apart again.
         match kind {
-            ItemKind::Days => {
-                let (days, running) = self.amount()?;
-                let work = Work::Days(days);
-                Some(Item::Activity(Activity { work, running }))
-            }
-            ItemKind::Hours => {
-                let (hours, running) = self.amount()?;
-                let work = Work::Hours(hours);
-                Some(Item::Activity(Activity { work, running }))
-            }
+            ItemKind::Days => self.activity(Work::Days),
+            ItemKind::Hours => self.activity(Work::Hours),
             ItemKind::Relation => Some(Item::Relation(self.relation()?)),
             ItemKind::Arrow => Some(Item::Arrow(self.arrow()?)),
         }

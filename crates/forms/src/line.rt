@@ -37,7 +37,8 @@ impl Reader<'_> {
     fn form_after(&mut self, command: Command) -> Option<Form>
         ensures { Takes (form_after command) self.old self.new result }
     {
-        // An arm for two commands would have to tell them apart again.
+        // One arm for two commands would tell them apart again; a function that takes `Form::Enter` or `Form::Alter` would
+        // need clauses of its own, and be longer than the two arms.
         match command {
             Command::Plan => Some(Form::Plan(self.word(b')')?)),
             Command::Enter => {

@@ -17,6 +17,7 @@ enum State {
     Bad,
 }
 
+// A reader with a state of its own, matched together with each byte, is a form that docs/DECISIONS.md names.
 /// Reads a number byte by byte.
 #[derive(Drop)]
 struct NumberReader {

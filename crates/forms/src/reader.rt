@@ -15,6 +15,7 @@ use crate::word::{Word, word_length};
 #[derive(Clone, Copy, PartialEq, Eq, Debug)]
 pub struct NoForm;
 
+// The text stays whole beside the place: a word tells its place, and the clauses speak of what is left from there.
 /// Reads a text form by form.
 #[derive(Drop)]
 pub struct Reader<'a> {

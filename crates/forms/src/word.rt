@@ -6,6 +6,7 @@ ghost use Rattle.forms.specs.Words.{in_word};
 
 use crate::mark::{Mark, told_apart};
 
+// No code reads the place: a word is a part of the input with its place, as docs/DECISIONS.md names it.
 /// A word, as a part of the text: the bytes from `place` on.
 #[derive(Clone, Copy)]
 pub(crate) struct Word<'a> {

@@ -81,7 +81,7 @@ module _ {E : Type 0} (m n : BookMeaning E) where
 
 -- a form that is not carried out
 pub ends_unsaid : {E : Type 0} (span_of : E → ℕ → Option Span) (entry_of : Item → Option E) (event_of : Point → Option ℕ) (m n : BookMeaning E) (line : ℕ) (f : Form) (before rest : List ℕ) (why : Unsaid)
-    → Stands f before rest → SaidBy (call_of entry_of event_of f) m n (Err why) → Ending span_of entry_of event_of m line before (refused_text (unsaid_refusal line why).line (unsaid_refusal line why).layer (number (unsaid_refusal line why).why))
+    → Stands f before rest → SaidBy (call_of entry_of event_of f) m n (Err why) → Ending span_of entry_of event_of m line before (refused_text (unsaid_refusal line why).place (unsaid_refusal line why).layer (number (unsaid_refusal line why).why))
 ends_unsaid span_of entry_of event_of m n line f before rest NoCall stands said = no_call f rest stands.0 stands.1 (said_none m n (call_of entry_of event_of f) said) refl
 ends_unsaid span_of entry_of event_of m n line f before rest (Refused k) stands said =
     let told = said_err m n (call_of entry_of event_of f) k said in

@@ -13,7 +13,7 @@ use book::refusal::{Layer, Refusal, Refused};
 use dates::layer::Dated;
 use forms::form::{Form, PlanKind};
 use forms::reader::{NoForm, Reader};
-use sheet_forms::form::{SheetForm, TextRefusal};
+use sheet_forms::form::SheetForm;
 
 /// As many bytes as a text can have.
 const TEXT_BYTES: usize = 65_536;
@@ -49,11 +49,7 @@ fn answered(text: &[u8], out: &mut [u8]) -> Result<usize, Refused>
     ensures { TextAnswered text.now out.old out.new result }
 {
     if text.len() > TEXT_BYTES {
-        let too_long = TextRefusal {
-            line: 0,
-            layer: Layer::Text,
-            why: Refusal::TextTooLong,
-        };
+        let too_long = Refusal::TextTooLong.at(Layer::Text, 0);
         return poured(SheetForm::Refused(too_long), out);
     }
     answered_short(text, out)
@@ -68,6 +64,6 @@ pub fn answer(forms: &[u8], answer: &mut [u8]) -> i64
 {
     match answered(forms, answer) {
         Ok(count) => count as i64,
-        Err(_) => -14,
+        Err(refused) => -i64::from(refused.why.number()),
     }
 }

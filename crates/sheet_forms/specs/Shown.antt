@@ -56,5 +56,5 @@ shown (Length days) = codes "(length " ++ (decimal days ++ codes ")\n")
 shown (Line r) = row_text r
 shown (Contradiction steps) = codes "(contradiction " ++ (decimal steps ++ codes ")\n")
 shown (Step s) = step_text s
-shown (Refused r) = refused_text r.line r.layer (number r.why)
+shown (Refused r) = refused_text r.place r.layer (number r.why)
 shown (End count) = codes "(end " ++ (decimal count ++ codes ")\n")

@@ -1,6 +1,6 @@
 //! The forms of a sheet, as values.
 
-use book::refusal::{Layer, Refusal};
+use book::refusal::Refused;
 use network::gap::{Gap, Owner};
 
 /// The earliest and the latest time of a start or a finish.
@@ -27,15 +27,7 @@ pub struct OwnedStep {
     pub gap: Gap,
 }
 
-/// Why a text is refused, by which layer, and at which of its lines.
-#[derive(Clone, Copy)]
-pub struct TextRefusal {
-    pub line: usize,
-    pub layer: Layer,
-    pub why: Refusal,
-}
-
-/// One line of an answer: of a sheet, or the one that says that a text is refused.
+/// One line of an answer: of a sheet, or the one that says why a text is refused, by which layer and at which of its lines.
 #[derive(Clone, Copy)]
 pub enum SheetForm {
     Length(u32),
@@ -43,5 +35,5 @@ pub enum SheetForm {
     Contradiction(usize),
     Step(OwnedStep),
     End(usize),
-    Refused(TextRefusal),
+    Refused(Refused),
 }

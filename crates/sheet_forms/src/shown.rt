@@ -5,11 +5,11 @@ ghost use Rattle.sheet_forms.specs.Shown.{shown, row_text, step_text, layer_text
 ghost use Rattle.book.specs.Refusals.{number};
 ghost use Rattle.sheet_forms.specs.Texts.{text_of};
 
-use crate::form::{OwnedStep, Row, SheetForm, TextRefusal, Window};
+use crate::form::{OwnedStep, Row, SheetForm, Window};
 use crate::pieces::Pieces;
 use crate::size::Count;
 use crate::text::FormText;
-use book::refusal::Layer;
+use book::refusal::{Layer, Refused};
 use network::gap::Owner;
 
 // The sheet's words are bytes of its own: `Display` would promise them only where the writing ends well.
@@ -129,20 +129,18 @@ impl OwnedStep {
     }
 }
 
-impl TextRefusal {
-    /// The text line, the layer and the number of the refusal.
-    fn put<P: Pieces>(self, pieces: &mut P)
-        requires { P.Pieces.taken pieces.old ≡ 0 }
-        ensures { P.Pieces.grows pieces.old (refused_text self.line self.layer (number self.why)) pieces.new }
-    {
-        pieces.push(b"(refused ");
-        pieces.number(self.line as u64);
-        pieces.push(b" ");
-        pieces.push(refuser_name(self.layer));
-        pieces.push(b" ");
-        pieces.number(u64::from(self.why.number()));
-        pieces.push(b")\n");
-    }
+/// The text line, the layer and the number of a refusal.
+fn put_refusal<P: Pieces>(refused: Refused, pieces: &mut P)
+    requires { P.Pieces.taken pieces.old ≡ 0 }
+    ensures { P.Pieces.grows pieces.old (refused_text refused.place refused.layer (number refused.why)) pieces.new }
+{
+    pieces.push(b"(refused ");
+    pieces.number(refused.place as u64);
+    pieces.push(b" ");
+    pieces.push(refuser_name(refused.layer));
+    pieces.push(b" ");
+    pieces.number(u64::from(refused.why.number()));
+    pieces.push(b")\n");
 }
 
 impl SheetForm {
@@ -156,7 +154,7 @@ impl SheetForm {
             SheetForm::Line(row) => row.put(pieces),
             SheetForm::Contradiction(steps) => counted(pieces, b"(contradiction ", steps as u64),
             SheetForm::Step(step) => step.put(pieces),
-            SheetForm::Refused(refusal) => refusal.put(pieces),
+            SheetForm::Refused(refused) => put_refusal(refused, pieces),
             SheetForm::End(count) => counted(pieces, b"(end ", count as u64),
         }
     }

@@ -4,6 +4,7 @@ ghost use Rattle.std.specs.Prelude.{◌≡◌, ◌+◌, ◌≤◌, length, decim
 ghost use Rattle.sheet_forms.specs.Texts.{counted};
 
 use crate::pieces::Pieces;
+use itoa::Buffer;
 
 /// How many bytes were taken up.
 #[derive(Clone, Copy)]
@@ -16,14 +17,7 @@ fn figure_count(n: u64) -> usize
     ensures count { result ≡ length (decimal n) }
     ensures few { result ≤ 20 }
 {
-    let mut count = 1;
-    let mut rest = n;
-    // an iterator over the tenths of a number, counted, would say the same in more words
-    while rest >= 10 {
-        count += 1;
-        rest /= 10;
-    }
-    count
+    Buffer::new().format(n).len()
 }
 
 impl Pieces for Count {

@@ -23,7 +23,7 @@ returns-in-None c =
     record {
       bytes = refused_text 1 Text 13;
       to = no_plan c.requires (not_begun text rest c.next-first.result reads none) refl;
-      poured = subst (λ k. Poured (refused_text k.line k.layer (number k.why)) c.args.out.now c.poured.new.out c.poured.result) c.no_form.ensures c.poured.ensures;
+      poured = subst (λ k. Poured (refused_text k.place k.layer (number k.why)) c.args.out.now c.poured.new.out c.poured.result) c.no_form.ensures c.poured.ensures;
     }
 
 pub returns-in-Activity : goal.returns-in-Activity
