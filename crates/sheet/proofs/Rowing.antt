@@ -30,4 +30,4 @@ module _ (outcome : Result Times Ring) (alone both : List ℕ) (spans : ℕ → 
 -- a row tells its line
 pub row_line : (outcome : Result Times Ring) (alone both : List ℕ) (p : ℕ) (s : Span) → (row_of outcome alone both p s).line ≡ p
 row_line outcome alone both p (Activity days w) = refl
-row_line outcome alone both p (Arrow i j days) = refl
+row_line outcome alone both p (Arrow a) = refl

@@ -35,7 +35,7 @@ module _ (m : Meaning) (lawful : Lawful m) (outcome : Result Times Ring) (alone 
     latest_finish = refl;
     free = λ keeps long low high. free_both m lawful (earliest_told outcome) (length_told outcome) keeps long p low high both (rooms keeps long).1;
   }
-  row_right p (Arrow i j days) = record { line = refl; days = refl; earliest_start = refl; earliest_finish = refl; latest_finish = refl; latest_start = refl; free = refl }
+  row_right p (Arrow a) = record { line = refl; days = refl; earliest_start = refl; earliest_finish = refl; latest_finish = refl; latest_start = refl; free = refl }
 
   -- one line more
   line_right : (p : ℕ) (Rest : List Row → Type 0) (rest : List Row) → Rest rest → (o : Option Span)

@@ -6,6 +6,7 @@
 use Rattle.std.specs.Prelude.{ℕ, zero, suc, ◌+◌, ◌-◌, ◌≤◌, min, List, [], ◌∷◌, ◌++◌, map, length, drop, Some, None, Ok, Err, Option, Result, slice_index}
 use Rattle.network.specs.Meanings.{Meaning}
 use Rattle.activity.specs.Activities.{start_of, finish_of}
+use Rattle.arrow.specs.declared.entry.Arrow.{Arrow}
 use Rattle.solver.specs.declared.ring.Ring.{Ring}
 use Rattle.solver.specs.declared.times.Times.{Times}
 use Rattle.solver.specs.RingSteps.{ring_steps}
@@ -16,7 +17,7 @@ use Rattle.sheet_forms.specs.declared.form.SheetForm.TheVariants as form
 use Rattle.sheet.specs.declared.span.Moves.{Moves}
 use Rattle.sheet.specs.declared.span.Moves.TheVariants.{Finish, Both}
 use Rattle.sheet.specs.declared.span.Span.{Span}
-use Rattle.sheet.specs.declared.span.Span.TheVariants.{Activity, Arrow}
+use Rattle.sheet.specs.declared.span.Span.TheVariants as span
 use Rattle.sheet.specs.declared.walk.Walk.{Walk}
 use Rattle.sheet.specs.declared.walk.Walk.TheVariants as at
 use Rattle.sheet.specs.Rows.{earliest_told, latest_told}
@@ -35,13 +36,13 @@ module _ (outcome : Result Times Ring) where
   abbrev pub window_of : ℕ → Window
   window_of e = record { earliest = earliest_told outcome e; latest = latest_told outcome e }
 
-  abbrev pub arrow_row : ℕ → ℕ → ℕ → ℕ → Row
-  arrow_row p i j days = record {
+  abbrev pub arrow_row : ℕ → Arrow → Row
+  arrow_row p a = record {
     line = p;
-    days = days;
-    start = record { earliest = earliest_told outcome i; latest = latest_told outcome j - days };
-    finish = record { earliest = earliest_told outcome i + days; latest = latest_told outcome j };
-    free = earliest_told outcome j - (earliest_told outcome i + days);
+    days = a.days;
+    start = record { earliest = earliest_told outcome a.from; latest = latest_told outcome a.to - a.days };
+    finish = record { earliest = earliest_told outcome a.from + a.days; latest = latest_told outcome a.to };
+    free = earliest_told outcome a.to - (earliest_told outcome a.from + a.days);
   }
 
   module _ (alone both : List ℕ) where
@@ -49,8 +50,8 @@ module _ (outcome : Result Times Ring) where
     activity_row p days w = record { line = p; days = days; start = window_of (start_of p); finish = window_of (finish_of p); free = free_by alone both w p }
 
     abbrev pub row_of : ℕ → Span → Row
-    row_of p (Activity days w) = activity_row p days w
-    row_of p (Arrow i j days) = arrow_row p i j days
+    row_of p (span.Activity days w) = activity_row p days w
+    row_of p (span.Arrow a) = arrow_row p a
 
     abbrev pub before : ℕ → Option Span → List Row → List Row
     before p None rows = rows

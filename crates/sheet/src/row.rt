@@ -6,6 +6,7 @@ ghost use Rattle.sheet.specs.Walking.{free_by, window_of, activity_row, arrow_ro
 use crate::room::{AllRooms, Rooms};
 use crate::span::{Moves, Span};
 use crate::told::{earliest_told, latest_told};
+use arrow::entry::Arrow;
 use book::traits::Book;
 use plan::issued::IssuedPlan;
 use sheet_forms::form::{Row, Window};
@@ -70,15 +71,15 @@ impl<B: Book> Rows<'_, B> {
     }
 
     /// The row of an arrow.
-    fn arrow_row(&self, line: usize, from: usize, to: usize, days: u32) -> Row
-        ensures { result ≡ arrow_row self.now.plan.now.outcome line «from» to days }
+    fn arrow_row(&self, line: usize, arrow: Arrow) -> Row
+        ensures { result ≡ arrow_row self.now.plan.now.outcome line arrow }
     {
-        let start = u64::from(earliest_told(self.plan, from));
-        let finish = u64::from(latest_told(self.plan, to));
-        let run = u64::from(days);
+        let start = u64::from(earliest_told(self.plan, arrow.from));
+        let finish = u64::from(latest_told(self.plan, arrow.to));
+        let run = u64::from(arrow.days);
         Row {
             line,
-            days,
+            days: arrow.days,
             start: Window {
                 earliest: start,
                 latest: finish.saturating_sub(run),
@@ -87,7 +88,7 @@ impl<B: Book> Rows<'_, B> {
                 earliest: start + run,
                 latest: finish,
             },
-            free: u64::from(earliest_told(self.plan, to)).saturating_sub(start + run),
+            free: u64::from(earliest_told(self.plan, arrow.to)).saturating_sub(start + run),
         }
     }
 
@@ -99,7 +100,7 @@ impl<B: Book> Rows<'_, B> {
     {
         match span {
             Span::Activity(days, moves) => self.activity_row(line, days, moves),
-            Span::Arrow(from, to, days) => self.arrow_row(line, from, to, days),
+            Span::Arrow(arrow) => self.arrow_row(line, arrow),
         }
     }
 }
