@@ -35,7 +35,7 @@ impl AllRooms {
     fn free(&self, moves: Moves, line: usize) -> u32
         requires some { 1 ≤ line }
         requires few { line ≤ 4096 }
-        ensures { result ≡ free_by self.now.alone.days self.now.both.days moves line }
+        ensures { result ≡ free_by self.now moves line }
     {
         match moves {
             Moves::Finish => self.alone.of(2 * line),
@@ -47,7 +47,7 @@ impl AllRooms {
 impl<B: Book> Rows<'_, B> {
     /// The window of an event.
     fn window_of(&self, event: usize) -> Window
-        ensures { result ≡ window_of self.now.plan.now.outcome event }
+        ensures { result ≡ window_of self.now event }
     {
         Window {
             earliest: u64::from(earliest_told(self.plan, event)),
@@ -59,7 +59,7 @@ impl<B: Book> Rows<'_, B> {
     fn activity_row(&self, line: usize, days: u32, moves: Moves) -> Row
         requires some { 1 ≤ line }
         requires few { line ≤ 4096 }
-        ensures { result ≡ activity_row self.now.plan.now.outcome self.now.rooms.alone.days self.now.rooms.both.days line days moves }
+        ensures { result ≡ activity_row self.now line days moves }
     {
         Row {
             line,
@@ -72,7 +72,7 @@ impl<B: Book> Rows<'_, B> {
 
     /// The row of an arrow.
     fn arrow_row(&self, line: usize, arrow: Arrow) -> Row
-        ensures { result ≡ arrow_row self.now.plan.now.outcome line arrow }
+        ensures { result ≡ arrow_row self.now line arrow }
     {
         let start = u64::from(earliest_told(self.plan, arrow.from));
         let finish = u64::from(latest_told(self.plan, arrow.to));
@@ -96,7 +96,7 @@ impl<B: Book> Rows<'_, B> {
     pub(crate) fn row_of(&self, line: usize, span: Span) -> Row
         requires some { 1 ≤ line }
         requires few { line ≤ 4096 }
-        ensures { result ≡ row_of self.now.plan.now.outcome self.now.rooms.alone.days self.now.rooms.both.days line span }
+        ensures { result ≡ row_of self.now line span }
     {
         match span {
             Span::Activity(days, moves) => self.activity_row(line, days, moves),

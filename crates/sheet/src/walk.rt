@@ -35,7 +35,7 @@ where
     /// The first row from a line on.
     pub(crate) fn next_row(&self, first: usize) -> Option<Row>
         requires { 1 ≤ first }
-        ensures rows { rows_from self.now.plan.now.outcome self.now.rooms.alone.days self.now.rooms.both.days (spans_of B.Entry.Spanned.span_of (B.Book.meaning self.now.plan.now.book)) first ((B.Book.meaning self.now.plan.now.book).rule.lines + 1 - first) ≡ next_rows self.now.plan.now.outcome self.now.rooms.alone.days self.now.rooms.both.days (spans_of B.Entry.Spanned.span_of (B.Book.meaning self.now.plan.now.book)) (B.Book.meaning self.now.plan.now.book).rule.lines result }
+        ensures rows { rows_from self.now (spans_of B.Entry.Spanned.span_of (B.Book.meaning self.now.plan.now.book)) first ((B.Book.meaning self.now.plan.now.book).rule.lines + 1 - first) ≡ next_rows self.now (spans_of B.Entry.Spanned.span_of (B.Book.meaning self.now.plan.now.book)) (B.Book.meaning self.now.plan.now.book).rule.lines result }
         ensures inside { RowInside first (B.Book.meaning self.now.plan.now.book).rule.lines result }
     {
         let book = self.plan.book();
