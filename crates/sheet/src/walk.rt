@@ -39,6 +39,7 @@ where
         ensures inside { RowInside first (B.Book.meaning self.now.plan.now.book).rule.lines result }
     {
         let book = self.plan.book();
+        // a find_map over the lines was tried: its proof did not close on what is said of its calls, line by line
         for line in first..=book.lines() {
             if let Some(span) = span_at(book, line) {
                 return Some(self.row_of(line, span));
