@@ -83,10 +83,8 @@ impl<B: Book> IssuedPlan<B> {
         ensures refused { told result ≡ sound_told self.now.outcome 0 }
         ensures past { StaysInStep (B.Book.meaning self.now.book) }
     {
-        match &self.outcome {
-            Ok(times) => Ok(times.length()),
-            Err(_) => Err(refused(Refusal::Contradictory, 0)),
-        }
+        let length = self.outcome.as_ref().map(|times| times.length());
+        length.map_err(|_| refused(Refusal::Contradictory, 0))
     }
 
     /// How many steps the ring has; none where the plan is sound.
@@ -94,10 +92,7 @@ impl<B: Book> IssuedPlan<B> {
         ensures answer { result ≡ step_count self.now.outcome }
         ensures past { StaysInStep (B.Book.meaning self.now.book) }
     {
-        match &self.outcome {
-            Ok(_) => 0,
-            Err(ring) => ring.steps(),
-        }
+        self.outcome.as_ref().err().map_or(0, |ring| ring.steps())
     }
 
     /// A step of the ring, numbered from 1.
@@ -106,11 +101,8 @@ impl<B: Book> IssuedPlan<B> {
         ensures refused { told result ≡ step_told self.now.outcome n }
         ensures past { StaysInStep (B.Book.meaning self.now.book) }
     {
-        let no_step = refused(Refusal::NoSuchStep, n);
-        match &self.outcome {
-            Ok(_) => Err(no_step),
-            Err(ring) => ring.step(n).ok_or(no_step),
-        }
+        let step = self.outcome.as_ref().err().and_then(|ring| ring.step(n));
+        step.ok_or(refused(Refusal::NoSuchStep, n))
     }
 
     /// Gives back the open plan, with the same lines and dates.

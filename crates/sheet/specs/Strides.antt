@@ -43,7 +43,7 @@ module _ {B E : Type 0} (span_of : E → ℕ → Option Span) (meaning : B → B
 
   -- the forms that are left of a plan's sheet
   abbrev pub left_of : Walk → List SheetForm
-  left_of = left rows.plan.now.outcome rows.rooms.alone.days rows.rooms.both.days (network_of meant) (spans_of span_of meant) meant.rule.lines
+  left_of = left rows (network_of meant) (spans_of span_of meant) meant.rule.lines
 
   abbrev pub ReadyAt : Walk → Type 0
   ReadyAt = Ready rows.plan.now.outcome meant.rule.lines

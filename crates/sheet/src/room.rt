@@ -15,6 +15,7 @@ pub(crate) struct Rooms {
 }
 
 /// The same for an event alone, and for an event with the other one of its line.
+// Two tables side by side: each is a table of rooms of its own, narrowed by a rule of its own.
 #[derive(Drop)]
 pub(crate) struct AllRooms {
     pub alone: Rooms,

@@ -6,6 +6,7 @@ ghost use Rattle.sheet.specs.Walking.{free_by, window_of, activity_row, arrow_ro
 use crate::room::{AllRooms, Rooms};
 use crate::span::{Moves, Span};
 use crate::told::{earliest_told, latest_told};
+use arrow::entry::Arrow;
 use book::traits::Book;
 use plan::issued::IssuedPlan;
 use sheet_forms::form::{Row, Window};
@@ -34,7 +35,7 @@ impl AllRooms {
     fn free(&self, moves: Moves, line: usize) -> u32
         requires some { 1 ≤ line }
         requires few { line ≤ 4096 }
-        ensures { result ≡ free_by self.now.alone.days self.now.both.days moves line }
+        ensures { result ≡ free_by self.now moves line }
     {
         match moves {
             Moves::Finish => self.alone.of(2 * line),
@@ -46,7 +47,7 @@ impl AllRooms {
 impl<B: Book> Rows<'_, B> {
     /// The window of an event.
     fn window_of(&self, event: usize) -> Window
-        ensures { result ≡ window_of self.now.plan.now.outcome event }
+        ensures { result ≡ window_of self.now event }
     {
         Window {
             earliest: u64::from(earliest_told(self.plan, event)),
@@ -58,7 +59,7 @@ impl<B: Book> Rows<'_, B> {
     fn activity_row(&self, line: usize, days: u32, moves: Moves) -> Row
         requires some { 1 ≤ line }
         requires few { line ≤ 4096 }
-        ensures { result ≡ activity_row self.now.plan.now.outcome self.now.rooms.alone.days self.now.rooms.both.days line days moves }
+        ensures { result ≡ activity_row self.now line days moves }
     {
         Row {
             line,
@@ -70,15 +71,15 @@ impl<B: Book> Rows<'_, B> {
     }
 
     /// The row of an arrow.
-    fn arrow_row(&self, line: usize, from: usize, to: usize, days: u32) -> Row
-        ensures { result ≡ arrow_row self.now.plan.now.outcome line «from» to days }
+    fn arrow_row(&self, line: usize, arrow: Arrow) -> Row
+        ensures { result ≡ arrow_row self.now line arrow }
     {
-        let start = u64::from(earliest_told(self.plan, from));
-        let finish = u64::from(latest_told(self.plan, to));
-        let run = u64::from(days);
+        let start = u64::from(earliest_told(self.plan, arrow.from));
+        let finish = u64::from(latest_told(self.plan, arrow.to));
+        let run = u64::from(arrow.days);
         Row {
             line,
-            days,
+            days: arrow.days,
             start: Window {
                 earliest: start,
                 latest: finish.saturating_sub(run),
@@ -87,7 +88,7 @@ impl<B: Book> Rows<'_, B> {
                 earliest: start + run,
                 latest: finish,
             },
-            free: u64::from(earliest_told(self.plan, to)).saturating_sub(start + run),
+            free: u64::from(earliest_told(self.plan, arrow.to)).saturating_sub(start + run),
         }
     }
 
@@ -95,11 +96,11 @@ impl<B: Book> Rows<'_, B> {
     pub(crate) fn row_of(&self, line: usize, span: Span) -> Row
         requires some { 1 ≤ line }
         requires few { line ≤ 4096 }
-        ensures { result ≡ row_of self.now.plan.now.outcome self.now.rooms.alone.days self.now.rooms.both.days line span }
+        ensures { result ≡ row_of self.now line span }
     {
         match span {
             Span::Activity(days, moves) => self.activity_row(line, days, moves),
-            Span::Arrow(from, to, days) => self.arrow_row(line, from, to, days),
+            Span::Arrow(arrow) => self.arrow_row(line, arrow),
         }
     }
 }

@@ -19,6 +19,7 @@ where
     fn fits(&self, bytes: usize) -> bool
         ensures { result ≡ nat_le (length (sheet_bytes B.Entry.Spanned.span_of B.Book.meaning self.now)) bytes }
     {
+        // a loop and not a try_fold, which is no plainer: its clauses speak of calls, and the loop's one invariant of the room
         let mut free = bytes;
         for form in self.forms() {
             let size = form.size();
@@ -36,6 +37,7 @@ where
         ensures count { result ≡ length (sheet_bytes B.Entry.Spanned.span_of B.Book.meaning self.now) }
         ensures bytes { out.new ≡ sheet_bytes B.Entry.Spanned.span_of B.Book.meaning self.now ++ drop result out.old }
     {
+        // the place steps on by hand, since each form is as long as it is
         let mut at = 0;
         for form in self.forms() {
             let text = form.text();

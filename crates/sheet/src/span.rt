@@ -1,5 +1,7 @@
 //! What a row of the sheet tells the times of.
 
+use arrow::entry::Arrow;
+
 /// Which events of an activity a free float moves.
 #[derive(Clone, Copy, PartialEq, Eq, Debug)]
 pub enum Moves {
@@ -13,5 +15,5 @@ pub enum Moves {
 #[derive(Clone, Copy, PartialEq, Eq, Debug)]
 pub enum Span {
     Activity(u32, Moves),
-    Arrow(usize, usize, u32),
+    Arrow(Arrow),
 }

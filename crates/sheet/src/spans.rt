@@ -4,7 +4,7 @@ ghost use Rattle.sheet.specs.Spans.{span_of_entry, span_of_arrow};
 
 use crate::span::{Moves, Span};
 use crate::spanned::Spanned;
-use activity::entry::Entry;
+use activity::entry::{Entry, Running};
 use arrow::entry::Arrow;
 
 impl Spanned for Entry {
@@ -13,9 +13,9 @@ impl Spanned for Entry {
     fn span(&self, _line: usize) -> Option<Span> {
         match self {
             Entry::Activity(a) => {
-                let moves = match a.pause() {
-                    Some(0) => Moves::Both,
-                    _ => Moves::Finish,
+                let moves = match a.running {
+                    Running::Whole => Moves::Both,
+                    Running::Broken => Moves::Finish,
                 };
                 Some(Span::Activity(a.days(), moves))
             }
@@ -28,6 +28,6 @@ impl Spanned for Arrow {
     ghost span_of = { span_of_arrow };
 
     fn span(&self, _line: usize) -> Option<Span> {
-        Some(Span::Arrow(self.from, self.to, self.days))
+        Some(Span::Arrow(*self))
     }
 }

@@ -90,6 +90,7 @@ where
     ghost remaining = { item_count (λ s. left_of B.Entry.Spanned.span_of B.Book.meaning s.rows.now s.at) };
 
     fn next(&mut self) -> Option<SheetForm> {
+        // the place in the walk is data that says what comes next
         let (form, rest) = match self.at {
             Walk::Head => self.rows.head(),
             Walk::Line(line, made) => self.rows.after_rows(line, made),

@@ -35,10 +35,11 @@ where
     /// The first row from a line on.
     pub(crate) fn next_row(&self, first: usize) -> Option<Row>
         requires { 1 ≤ first }
-        ensures rows { rows_from self.now.plan.now.outcome self.now.rooms.alone.days self.now.rooms.both.days (spans_of B.Entry.Spanned.span_of (B.Book.meaning self.now.plan.now.book)) first ((B.Book.meaning self.now.plan.now.book).rule.lines + 1 - first) ≡ next_rows self.now.plan.now.outcome self.now.rooms.alone.days self.now.rooms.both.days (spans_of B.Entry.Spanned.span_of (B.Book.meaning self.now.plan.now.book)) (B.Book.meaning self.now.plan.now.book).rule.lines result }
+        ensures rows { rows_from self.now (spans_of B.Entry.Spanned.span_of (B.Book.meaning self.now.plan.now.book)) first ((B.Book.meaning self.now.plan.now.book).rule.lines + 1 - first) ≡ next_rows self.now (spans_of B.Entry.Spanned.span_of (B.Book.meaning self.now.plan.now.book)) (B.Book.meaning self.now.plan.now.book).rule.lines result }
         ensures inside { RowInside first (B.Book.meaning self.now.plan.now.book).rule.lines result }
     {
         let book = self.plan.book();
+        // a find_map over the lines was tried: its proof did not close on what is said of its calls, line by line
         for line in first..=book.lines() {
             if let Some(span) = span_at(book, line) {
                 return Some(self.row_of(line, span));

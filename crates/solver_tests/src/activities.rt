@@ -12,6 +12,13 @@ use std::test::Fail;
 
 // Words of this crate for its own cases: a crate that lends such words to every test and program would be no plainer.
 
+fn activity(days: u32, running: Running) -> Entry {
+    Entry::Activity(Activity {
+        work: Work::Days(days),
+        running,
+    })
+}
+
 fn relation(kind: Kind, bound: Bound, first: usize, second: usize, lag: i32) -> Entry {
     Entry::Relation(Relation {
         kind,
@@ -26,13 +33,7 @@ fn relation(kind: Kind, bound: Bound, first: usize, second: usize, lag: i32) -> 
 fn five(running: Running) -> ActivityBook {
     let mut book = ActivityBook::new();
     for (line, days) in [3, 4, 5, 2, 6].iter().enumerate() {
-        let _ = book.enter(
-            line + 1,
-            Entry::Activity(Activity {
-                work: Work::Days(*days),
-                running,
-            }),
-        );
+        let _ = book.enter(line + 1, activity(*days, running));
     }
     let relations = [
         relation(Kind::FS, Bound::Least, 1, 2, 0),
@@ -53,13 +54,7 @@ fn five(running: Running) -> ActivityBook {
 fn lagged(most: i32) -> ActivityBook {
     let mut book = ActivityBook::new();
     for (line, days) in [3, 4].iter().enumerate() {
-        let _ = book.enter(
-            line + 1,
-            Entry::Activity(Activity {
-                work: Work::Days(*days),
-                running: Running::Whole,
-            }),
-        );
+        let _ = book.enter(line + 1, activity(*days, Running::Whole));
     }
     let _ = book.enter(3, relation(Kind::FS, Bound::Least, 1, 2, 5));
     let _ = book.enter(4, relation(Kind::FS, Bound::Most, 1, 2, most));
@@ -69,13 +64,7 @@ fn lagged(most: i32) -> ActivityBook {
 /// One whole activity of 3 days with one date on it.
 fn dated(event: usize, bound: Bound, day: u32) -> Dated<ActivityBook> {
     let mut book = Dated::over(ActivityBook::new());
-    let _ = book.enter(
-        1,
-        Entry::Activity(Activity {
-            work: Work::Days(3),
-            running: Running::Whole,
-        }),
-    );
+    let _ = book.enter(1, activity(3, Running::Whole));
     let _ = book.date(1, Date { event, bound, day });
     book
 }
@@ -177,13 +166,7 @@ fn contradictions(rt: HostRuntime) -> Result<(), Fail> {
 fn chain(reversed: bool) -> ActivityBook {
     let mut book = ActivityBook::new();
     for line in 1..=200 {
-        let _ = book.enter(
-            line,
-            Entry::Activity(Activity {
-                work: Work::Days(9_999),
-                running: Running::Whole,
-            }),
-        );
+        let _ = book.enter(line, activity(9_999, Running::Whole));
     }
     for turn in 1..=199 {
         let first = if reversed { 200 - turn } else { turn };

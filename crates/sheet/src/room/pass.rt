@@ -17,6 +17,7 @@ fn until_the_end<B: Book>(plan: &IssuedPlan<B>) -> Rooms
     ensures { (e : ℕ) → e < 1024 → slice_index result.days e ≡ length_told plan.now.outcome - earliest_told plan.now.outcome e }
 {
     let end = length_told(plan);
+    // array::from_fn would make the same table; tried, and the search for the proof of its contract ran out of memory
     let mut days = [0; 1024];
     for (event, day) in days.iter_mut().enumerate() {
         *day = end.saturating_sub(earliest_told(plan, event));

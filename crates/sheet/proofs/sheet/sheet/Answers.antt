@@ -20,7 +20,7 @@ returns-then-fits g c =
     let count = c.written.ensures.count in
     record {
       forms = left_of g.B.Entry.Spanned.span_of g.B.Book.meaning rows at.Head;
-      sheet = sheet_right g.B.Entry.Spanned.span_of m lawful plan.outcome rooms.alone.days rooms.both.days c.rooms_of-rooms.ensures;
+      sheet = sheet_right g.B.Entry.Spanned.span_of m lawful rows c.rooms_of-rooms.ensures;
       told = ap Ok count ∙ sym (cond-true _ _ _ test);
       bytes = c.written.ensures.bytes ∙ ap (λ n. whole ++ drop n c.args.out.now) count ∙ sym (cond-true _ _ _ test);
     }
@@ -36,7 +36,7 @@ returns-else-fits g c =
     let test : leb (length whole) (length c.args.out.now) ≡ false = search rules in
     record {
       forms = left_of g.B.Entry.Spanned.span_of g.B.Book.meaning rows at.Head;
-      sheet = sheet_right g.B.Entry.Spanned.span_of m lawful plan.outcome rooms.alone.days rooms.both.days c.rooms_of-rooms.ensures;
+      sheet = sheet_right g.B.Entry.Spanned.span_of m lawful rows c.rooms_of-rooms.ensures;
       told = ap Err c.at.ensures ∙ sym (cond-false _ _ _ test);
       bytes = sym (cond-false _ _ _ test);
     }
