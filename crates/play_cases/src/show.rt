@@ -45,8 +45,10 @@ where
     B::Entry: Spanned,
 {
     let mut bytes = [0; 4096];
-    let written = sheet(plan, &mut bytes).unwrap_or(0);
-    rt.stdout().write_all(bytes.get(..written).unwrap_or(&[]))
+    match sheet(plan, &mut bytes) {
+        Ok(written) => rt.stdout().write_all(bytes.get(..written).unwrap_or(&[])),
+        Err(_) => Ok(()),
+    }
 }
 
 /// Prints the length and the window of each event that a gap ties, or the ring; and then the sheet.

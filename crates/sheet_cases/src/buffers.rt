@@ -49,6 +49,7 @@ where
     B::Entry: Spanned,
 {
     let mut bytes = [FILL; ROOM];
+    // a refusal is not hidden: it is told below as 0 bytes, and no buffer is answered rightly
     let count = sheet(plan, &mut bytes).unwrap_or(0);
     let known = bytes.get(..count).unwrap_or(&[]);
     rt.stdout().write_all(known)?;

@@ -5,8 +5,11 @@ ghost use Rattle.std.specs.Prelude.{◌<◌};
 use crate::told::told;
 use std::io;
 
+/// How many bytes the good text has.
+const SIZE: usize = 137;
+
 /// A good text of a few lines.
-const GOOD: [u8; 137] =
+const GOOD: [u8; SIZE] =
     *b"(plan activity)\n(enter 1 (activity 5 whole))\n(enter 2 (hours 20 broken))\n(enter 9 (relation FS most 1 2 -4))\n(date 2 (start 1 least 10))\n";
 
 /// What comes of a damaged text.
@@ -22,7 +25,7 @@ enum Outcome {
 
 /// The text line that a byte of the good text stands on.
 fn line_of(place: usize) -> usize
-    requires { place < 137 }
+    requires { place < SIZE }
 {
     let before = GOOD.iter().take(place);
     before.filter(|byte| **byte == b'\n').count() + 1
@@ -44,8 +47,8 @@ fn come_of(text: &[u8], no_form: &[u8]) -> Option<Outcome> {
 }
 
 /// The good text with one byte changed.
-fn damaged(place: usize, value: u8) -> [u8; 137]
-    requires { place < 137 }
+fn damaged(place: usize, value: u8) -> [u8; SIZE]
+    requires { place < SIZE }
 {
     let mut text = GOOD;
     text[place] = value;
@@ -54,7 +57,7 @@ fn damaged(place: usize, value: u8) -> [u8; 137]
 
 /// Damages a byte to each other value, and says what comes of each.
 fn damage_at(rt: &HostRuntime, outcomes: &mut Vec<Outcome>, place: usize) -> io::Result<()>
-    requires { place < 137 }
+    requires { place < SIZE }
 {
     let line = line_of(place);
     let no_form = format!(in rt.alloc(); "(refused {line} text 13)\n")?;
@@ -77,7 +80,7 @@ fn count(outcomes: &[Outcome], outcome: Outcome) -> usize {
 /// Damages each byte.
 pub fn run(rt: &HostRuntime) -> io::Result<()> {
     let mut outcomes = Vec::new(rt.alloc());
-    for place in 0..137 {
+    for place in 0..SIZE {
         damage_at(rt, &mut outcomes, place)?;
     }
     let no_form = count(&outcomes, Outcome::NoForm);
