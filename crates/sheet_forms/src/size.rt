@@ -1,10 +1,9 @@
-//! How many bytes a form has, without holding them.
+//! How many bytes a form has, without writing it.
 
 ghost use Rattle.std.specs.Prelude.{◌≡◌, ◌+◌, ◌≤◌, length, decimal};
 ghost use Rattle.sheet_forms.specs.Texts.{counted};
 
 use crate::pieces::Pieces;
-use itoa::Buffer;
 
 /// How many bytes were taken up.
 #[derive(Clone, Copy)]
@@ -13,11 +12,15 @@ pub(crate) struct Count {
 }
 
 /// How many digits a number has.
+#[tactic(auto, using(crate::proofs::Digits::digits))]
 fn figure_count(n: u64) -> usize
     ensures count { result ≡ length (decimal n) }
     ensures few { result ≤ 20 }
 {
-    Buffer::new().format(n).len()
+    match n.checked_ilog10() {
+        Some(power) => power as usize + 1,
+        None => 1,
+    }
 }
 
 impl Pieces for Count {

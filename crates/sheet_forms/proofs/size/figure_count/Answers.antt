@@ -1,9 +1,8 @@
-use Rattle.std.proofs.Common.{◌^◌, ◌<◌, ◌≤◌, length, decimal, arith, rules}
-use Rattle.std.proofs.lemmas.Fmt.{length-decimal-le}
+use Rattle.std.proofs.Common.{◌≡◌, length, sym, ap, arith}
+use Rattle.std.proofs.lemmas.Fmt.{decimal_digit}
 use Rattle.sheet_forms.proofs.size.figure_count.Goals as goal
 
-pub returns-clause-few : goal.returns-clause-few
-returns-clause-few c =
-    let low : c.args.n < 2 ^ 64 = search rules in
-    let few : length (decimal c.args.n) ≤ 20 = length-decimal-le 20 c.args.n (omega arith) (omega arith) low in
-    search rules
+pub returns-in-None-clause-count : goal.returns-in-None-clause-count
+returns-in-None-clause-count c =
+    let nought : c.args.n ≡ 0 = c.in-None.ensures.none in
+    sym (ap length (decimal_digit c.args.n (omega arith)))
