@@ -136,7 +136,7 @@ impl Lines for ActivityLines {
         if is_within(place, PLACES) {
             Owner::Line(place.div_ceil(2))
         } else {
-            Owner::Floor
+            Owner::Floor(0)
         }
     }
 

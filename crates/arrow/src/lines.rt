@@ -64,7 +64,7 @@ impl Lines for ArrowLines {
         if is_within(place, LINES) {
             Owner::Line(place)
         } else {
-            Owner::Floor
+            Owner::Floor(0)
         }
     }
 

@@ -25,7 +25,7 @@ module _ {E : Type 0} (m : BookMeaning E) (laws : LawfulRule m.rule) where
   held_bounded (DatePlace n) p g owns e =
       let from = after_some (m.ledger.date n) (λ x. m.rule.date_gap n x p) g e in
       laws.date_bounded n from.0 p g owns.0 owns.1 from.2
-  held_bounded Floor p g owns e = absurd owns
+  held_bounded (Floor n) p g owns e = absurd owns
 
   held_outside : (p : ℕ) → Outside m.rule.places p → (network_of m).gap p ≡ None
   held_outside p out = ap (λ o. held m o p) (laws.floor_outside p out)

@@ -46,7 +46,7 @@ module _ {E : Type 0} (r : Rule E) where
   owns_still : (o : Owner) → OwnsIn r o → OwnsIn (layer_rule r) o
   owns_still (Line n) h = h
   owns_still (DatePlace n) h = (h.0, omega (arith, h.1))
-  owns_still Floor h = h
+  owns_still (Floor n) h = h
 
   module _ (laws : LawfulRule r) where
     layer_owned : (p : ℕ) → 1 ≤ p → p ≤ r.places + added r.places → OwnsIn (layer_rule r) (layer_owner r p)
@@ -61,7 +61,7 @@ module _ {E : Type 0} (r : Rule E) where
     layer_outside p (inr high) = owner_past p (omega arith) high
 
     -- a place that somebody owns below is owned by the same above
-    owner_kept : (p : ℕ) (o : Owner) → (o ≡ Floor → ⊥) → r.owner p ≡ o → layer_owner r p ≡ o
+    owner_kept : (p : ℕ) (o : Owner) → (o ≡ unowned → ⊥) → r.owner p ≡ o → layer_owner r p ≡ o
     owner_kept p o real e =
         ⊎_elim
         (λ (over : r.places < p). absurd (real (sym e ∙ laws.floor_outside p (inr over))))

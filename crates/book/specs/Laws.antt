@@ -16,7 +16,7 @@ module _ {E : Type 0} where
   abbrev pub OwnsIn : Rule E → Owner → Type 0
   OwnsIn r (Line n) = (1 ≤ n) × (n ≤ r.lines)
   OwnsIn r (DatePlace n) = (1 ≤ n) × (n ≤ r.dates)
-  OwnsIn r Floor = ⊥
+  OwnsIn r (Floor n) = ⊥
 
   pub record LawfulRule (r : Rule E) : Type 0 where
     pub few_events : r.events ≤ 1023

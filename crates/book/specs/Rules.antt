@@ -52,7 +52,7 @@ after (Some a) f = f a
 abbrev pub held : {E : Type 0} → BookMeaning E → Owner → ℕ → Option Gap
 held m (Line n) place = after (m.ledger.line n) (λ e. m.rule.line_gap n e place)
 held m (DatePlace n) place = after (m.ledger.date n) (λ d. m.rule.date_gap n d place)
-held m Floor place = None
+held m (Floor n) place = None
 
 abbrev pub network_of : {E : Type 0} → BookMeaning E → Meaning
 network_of m = record {

@@ -84,11 +84,11 @@ fn places_and_owners(rt: HostRuntime) {
     assert_eq!(rt; book.lines(), 400);
     assert_eq!(rt; book.dates(), 0);
     let cases = [
-        (0, Owner::Floor),
+        (0, Owner::Floor(0)),
         (1, Owner::Line(1)),
         (400, Owner::Line(400)),
-        (401, Owner::Floor),
-        (65_537, Owner::Floor),
+        (401, Owner::Floor(0)),
+        (65_537, Owner::Floor(0)),
     ];
     for (place, owner) in cases {
         assert_eq!(rt; book.owner(place), owner);

@@ -69,7 +69,7 @@ impl Lines for CrampedLines {
         if is_within(place, 4_090) {
             Owner::Line((place - 1) % LINES + 1)
         } else {
-            Owner::Floor
+            Owner::Floor(0)
         }
     }
 

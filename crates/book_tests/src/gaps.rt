@@ -140,15 +140,15 @@ fn places_and_owners(rt: HostRuntime) {
     assert_eq!(rt; book.lines(), 400);
     assert_eq!(rt; book.dates(), 0);
     let cases = [
-        (0, Owner::Floor),
+        (0, Owner::Floor(0)),
         (1, Owner::Line(1)),
         (2, Owner::Line(1)),
         (3, Owner::Line(2)),
         (799, Owner::Line(400)),
         (800, Owner::Line(400)),
-        (801, Owner::Floor),
-        (65_537, Owner::Floor),
-        (usize::MAX, Owner::Floor),
+        (801, Owner::Floor(0)),
+        (65_537, Owner::Floor(0)),
+        (usize::MAX, Owner::Floor(0)),
     ];
     for (place, owner) in cases {
         assert_eq!(rt; book.owner(place), owner);

@@ -169,7 +169,7 @@ fn owners_in_a_pile(rt: HostRuntime) {
     assert_eq!(rt; book.owner(865), Owner::DatePlace(65));
     assert_eq!(rt; book.owner(928), Owner::DatePlace(128));
     for place in [0, 929, 65_537, usize::MAX] {
-        assert_eq!(rt; book.owner(place), Owner::Floor);
+        assert_eq!(rt; book.owner(place), Owner::Floor(0));
         assert_eq!(rt; book.gap(place), None);
     }
 }

@@ -43,7 +43,7 @@ pub trait Lines: Sized {
     fn places() -> usize
         ensures { result ≡ rule.places };
 
-    /// The owner of a place; the floor where there is no such place.
+    /// The owner of a place; the floor, with number 0, where there is no such place.
     fn owner(place: usize) -> Owner
         ensures { result ≡ rule.owner place };
 

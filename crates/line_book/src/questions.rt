@@ -25,7 +25,7 @@ impl<L: Lines> Network for LineBook<L> {
     fn gap(&self, place: usize) -> Option<Gap> {
         match L::owner(place) {
             Owner::Line(p) => L::gap(p, self.lines.get(p)?, place),
-            Owner::DatePlace(_) | Owner::Floor => None,
+            Owner::DatePlace(_) | Owner::Floor(_) => None,
         }
     }
 

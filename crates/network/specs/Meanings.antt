@@ -15,9 +15,9 @@ pub record Meaning : Type 0 where
   pub gap : ℕ → Option Gap
   pub owner : ℕ → Owner
 
--- owned by nobody but the floor
+-- owned by nobody: the floor, with number 0
 abbrev pub unowned : Owner
-unowned = Floor
+unowned = Floor 0
 
 abbrev pub Outside : ℕ → ℕ → Type 0
 Outside places p = (p < 1) ⊎ (places < p)

@@ -8,12 +8,12 @@ pub struct Gap {
     pub days: i64,
 }
 
-/// The owner of a place: a line of the book, a date place of a layer, or nobody but the floor.
+/// The owner of a place: a line of the book, a date place of a layer, or nobody but the floor; each with its number.
 #[derive(Clone, Copy, PartialEq, Eq, Debug)]
 pub enum Owner {
     Line(usize),
     DatePlace(usize),
-    Floor,
+    Floor(usize),
 }
 
 /// One step of a ring: the place that holds the gap, or 0 where the step is the floor.

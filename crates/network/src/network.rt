@@ -23,7 +23,7 @@ pub trait Network {
     fn gap(&self, place: usize) -> Option<Gap>
         ensures { result ≡ (network self.now).gap place };
 
-    /// The owner of a place; the floor outside 1 to G.
+    /// The owner of a place; the floor, with number 0, outside 1 to G.
     fn owner(&self, place: usize) -> Owner
         ensures { result ≡ (network self.now).owner place };
 

@@ -42,7 +42,7 @@ impl Network for Made {
         if (1..=self.places()).contains(&place) {
             Owner::Line(place)
         } else {
-            Owner::Floor
+            Owner::Floor(0)
         }
     }
 }

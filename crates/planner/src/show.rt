@@ -117,7 +117,7 @@ impl fmt::Display for Words<Owner> {
         match self.0 {
             Owner::Line(number) => write!(f, "book {number}"),
             Owner::DatePlace(number) => write!(f, "dates {number}"),
-            Owner::Floor => write!(f, "floor 0"),
+            Owner::Floor(number) => write!(f, "floor {number}"),
         }
     }
 }

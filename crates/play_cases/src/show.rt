@@ -19,7 +19,7 @@ impl fmt::Display for OwnerWords {
         match self.0 {
             Owner::Line(number) => write!(f, "line {number}"),
             Owner::DatePlace(number) => write!(f, "date place {number}"),
-            Owner::Floor => write!(f, "the floor"),
+            Owner::Floor(_) => write!(f, "the floor"),
         }
     }
 }

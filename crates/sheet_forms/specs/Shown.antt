@@ -27,16 +27,16 @@ floats_text r = decimal (float_of r.start) ++ (codes " " ++ (decimal (float_of r
 abbrev pub row_text : Row → List ℕ
 row_text r = codes "(line " ++ (decimal r.line ++ (codes " (start " ++ (window_text r.start ++ (codes ") (finish " ++ (window_text r.finish ++ (codes ") (float " ++ (floats_text r ++ codes "))\n")))))))
 
--- the layer of an owner, and its number there; the floor has number 0
+-- the layer of an owner, and its number there
 abbrev pub layer_text : Owner → List ℕ
 layer_text (owner.Line n) = codes "book"
 layer_text (owner.DatePlace n) = codes "dates"
-layer_text owner.Floor = codes "floor"
+layer_text (owner.Floor n) = codes "floor"
 
 abbrev pub number_of : Owner → ℕ
 number_of (owner.Line n) = n
 number_of (owner.DatePlace n) = n
-number_of owner.Floor = 0
+number_of (owner.Floor n) = n
 
 abbrev pub step_text : OwnedStep → List ℕ
 step_text s = codes "(step " ++ (layer_text s.owner ++ (codes " " ++ (decimal (number_of s.owner) ++ (codes " " ++ (decimal s.gap.left ++ (codes " " ++ (decimal s.gap.reached ++ (codes " " ++ (signed_decimal s.gap.days ++ codes ")\n")))))))))

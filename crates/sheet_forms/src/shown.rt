@@ -21,17 +21,16 @@ fn layer_name(owner: Owner) -> &'static [u8]
     match owner {
         Owner::Line(_) => b"book",
         Owner::DatePlace(_) => b"dates",
-        Owner::Floor => b"floor",
+        Owner::Floor(_) => b"floor",
     }
 }
 
-/// The number of an owner in its layer; the floor has 0.
+/// The number of an owner in its layer.
 fn number_of(owner: Owner) -> u64
     ensures { result ≡ number_of owner }
 {
     match owner {
-        Owner::Line(number) | Owner::DatePlace(number) => number as u64,
-        Owner::Floor => 0,
+        Owner::Line(number) | Owner::DatePlace(number) | Owner::Floor(number) => number as u64,
     }
 }
 

@@ -58,7 +58,7 @@ impl<B: Book> Network for Dated<B> {
             return self.below.owner(place);
         }
         if place - below > room_over(below) {
-            return Owner::Floor;
+            return Owner::Floor(0);
         }
         Owner::DatePlace(self.below.dates() + (place - below))
     }
