@@ -14,8 +14,8 @@ settle-requires g c =
       bound = none_late arcs rise.result rise.ensures.times rise.ensures.parents;
     }
 
-pub windows-requires : goal.windows-requires
-windows-requires g c =
+pub at_rest-requires : goal.at_rest-requires
+at_rest-requires g c =
     let arcs = c.take.new.self in
     let rise = c.begin-rise in
     let rest = c.in-Ok.ensures in
@@ -36,6 +36,9 @@ ring_from-requires g c =
       inside = ringed.inside;
       ends = ringed.ends;
     }
+
+pub returns-in-Ok : goal.returns-in-Ok
+returns-in-Ok g c = c.at_rest.ensures (g.N.Network.network c.args.network.now) c.take.ensures
 
 pub returns-in-Err : goal.returns-in-Err
 returns-in-Err g c = c.ring_from.ensures (g.N.Network.network c.args.network.now) c.take.ensures
