@@ -1,7 +1,7 @@
 //! An order of the arcs that follows them from event to event, so that few sweeps are needed.
 //! It is only a hint: nothing is known of it, and no answer rests on it.
 
-ghost use Rattle.std.specs.Prelude.{◌≤◌, length};
+ghost use Rattle.std.specs.Prelude.{◌*◌, ◌≤◌, length};
 
 use crate::arcs::Arcs;
 use crate::order::lists::{ArcLists, leaving, write};
@@ -38,13 +38,17 @@ impl Order {
         }
     }
 
-    /// The arcs to look at in this order before the sweep that goes over every arc, where so many passes can still be owed.
-    /// A pass by the hint counts as two, since an arc can stand in the order twice; where only two passes are left,
-    /// sweeps alone are made.
-    pub(crate) fn hinted_in(&self, passes: usize) -> &[u16]
-        ensures { length result.now ≤ 8192 }
+    /// The arcs to look at in this order before the sweep that goes over every arc, where so many passes can still be owed:
+    /// at most twice as many as there are arcs. A pass by the hint counts as two, since an arc can stand in the order twice;
+    /// where only two passes are left, sweeps alone are made.
+    pub(crate) fn hinted_in(&self, arcs: &Arcs, passes: usize) -> &[u16]
+        ensures { length result.now ≤ 2 * arcs.now.count }
     {
-        let count = if passes > 2 { self.count } else { 0 };
+        let count = if passes > 2 {
+            self.count.min(2 * arcs.count)
+        } else {
+            0
+        };
         self.indices.get(..count).unwrap_or(&[])
     }
 

@@ -18,7 +18,7 @@ impl Fall {
     {
         let mut passes = arcs.events + 1;
         loop {
-            self.pull(arcs, order.hinted_in(passes));
+            self.pull(arcs, order.hinted_in(arcs, passes));
             if !self.sweep(arcs) {
                 return;
             }

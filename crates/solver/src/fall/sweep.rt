@@ -1,6 +1,6 @@
 //! One pass over the arcs.
 
-ghost use Rattle.std.specs.Prelude.{◌≡◌, ◌+◌, ◌-◌, ◌^◌, ◌<◌, ◌≤◌, if◌then◌else◌, nat_lt, slice_set};
+ghost use Rattle.std.specs.Prelude.{◌≡◌, ◌+◌, ◌-◌, ◌*◌, ◌^◌, ◌<◌, ◌≤◌, length, if◌then◌else◌, nat_lt, slice_set};
 ghost use Rattle.network.specs.Schedules.{greatest};
 ghost use Rattle.solver.specs.Rising.{time_at};
 ghost use Rattle.solver.specs.Falling.{Above, Sank, Fell};
@@ -31,6 +31,7 @@ impl Fall {
 
     /// Goes over the arcs against a hinted order.
     pub(crate) fn pull(&mut self, arcs: &Arcs, hinted: &[u16])
+        requires few { length hinted.now ≤ 2 * arcs.now.count }
         requires above { Above arcs.now (time_at self.old.times) }
         requires bound { greatest (time_at self.old.times) arcs.now.events ≤ 3000000000 }
         ensures { Sank arcs.now self.old.times self.new.times }

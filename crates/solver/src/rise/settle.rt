@@ -26,7 +26,7 @@ impl Rise {
     {
         let mut passes = arcs.events + 1;
         loop {
-            self.push(arcs, order.hinted_in(passes));
+            self.push(arcs, order.hinted_in(arcs, passes));
             let changed = self.sweep(arcs);
             if let Some(event) = self.look(arcs) {
                 return Err(RingFrom { event });

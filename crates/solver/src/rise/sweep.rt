@@ -1,6 +1,6 @@
 //! One pass over the arcs.
 
-ghost use Rattle.std.specs.Prelude.{◌≡◌, ◌+◌, ◌-◌, ◌^◌, ◌<◌, ◌≤◌, length, if◌then◌else◌, nat_lt, slice_set};
+ghost use Rattle.std.specs.Prelude.{◌≡◌, ◌+◌, ◌-◌, ◌*◌, ◌^◌, ◌<◌, ◌≤◌, length, if◌then◌else◌, nat_lt, slice_set};
 ghost use Rattle.network.specs.Schedules.{greatest};
 ghost use Rattle.solver.specs.Rising.{time_at, Moved, Swept};
 
@@ -32,7 +32,7 @@ impl Rise {
 
     /// Goes over the arcs in a hinted order.
     pub(crate) fn push(&mut self, arcs: &Arcs, hinted: &[u16])
-        requires few { length hinted.now ≤ 8192 }
+        requires few { length hinted.now ≤ 2 * arcs.now.count }
         requires bound { greatest (time_at self.old.times) arcs.now.events ≤ 3000000000 }
         ensures { Moved arcs.now self.old self.new (length hinted.now) }
     {
