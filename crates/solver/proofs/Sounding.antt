@@ -16,14 +16,24 @@ use Rattle.solver.specs.Copies.{GatheredFrom}
 use Rattle.solver.specs.Rising.{time_at, Keeps, Rising}
 use Rattle.solver.specs.Falling.{Fallen}
 
+pub greatest_more : (t : ℕ → ℕ) (n : ℕ) → greatest t (n + 1) ≡ max (greatest t n) (t (n + 1))
+unfolding greatest
+greatest_more t n = let one : n + 1 ≡ suc n = omega arith in ap (greatest t) one ∙ (let x = ap t one in omega arith)
+
+pub greatest_first : (t : ℕ → ℕ) → greatest t 0 ≡ t 0
+unfolding greatest
+greatest_first t = refl
+
 -- the greatest of the times of events 0 to n is the greatest of the first n + 1 times of the table
 pub greatest_fold : (ts : List ℕ) (n : ℕ) → n < length ts → fold max 0 (take (n + 1) ts) ≡ greatest (time_at ts) n
-unfolding greatest
-greatest_fold ts zero h = let x = fold_more max 0 ts 0 0 h in omega arith
+greatest_fold ts zero h = let x = fold_more max 0 ts 0 0 h in let first = greatest_first (time_at ts) in omega arith
 greatest_fold ts (suc n) h =
     let x = fold_more max 0 ts (suc n) 0 h in
     let y = greatest_fold ts n (omega arith) in
-    let one = ap (λ k. fold max 0 (take k ts)) (let z : suc n ≡ n + 1 = omega arith in z) in
+    let next : suc n ≡ n + 1 = omega arith in
+    let one = ap (λ k. fold max 0 (take k ts)) next in
+    let more = ap (greatest (time_at ts)) next ∙ greatest_more (time_at ts) n in
+    let there = ap (time_at ts) next in
     omega arith
 
 -- and so is what `max` makes of them
