@@ -28,6 +28,7 @@ impl Case {
                 self.text.push(b'\n')?;
             }
             [b'>', _, rest @ ..] => self.text.extend_from_slice(rest)?,
+            [b'<'] => self.expected.push(b'\n')?,
             [b'<', _, rest @ ..] => {
                 self.expected.extend_from_slice(rest)?;
                 self.expected.push(b'\n')?;
