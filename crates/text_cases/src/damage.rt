@@ -1,6 +1,6 @@
 //! Every damage of one byte of a good text.
 
-ghost use Rattle.std.specs.Prelude.{◌<◌};
+ghost use Rattle.std.specs.Prelude.{◌<◌, ◌≤◌};
 
 use crate::told::told;
 use std::io;
@@ -13,7 +13,7 @@ const GOOD: [u8; SIZE] =
     *b"(plan activity)\n(enter 1 (activity 5 whole))\n(enter 2 (hours 20 broken))\n(enter 9 (relation FS most 1 2 -4))\n(date 2 (start 1 least 10))\n";
 
 /// What comes of a damaged text.
-#[derive(Clone, Copy, PartialEq, Eq)]
+#[derive(Clone, Copy)]
 enum Outcome {
     /// It is still a text that makes a plan.
     Taken,
@@ -23,12 +23,41 @@ enum Outcome {
     Refused,
 }
 
-/// The text line that a byte of the good text stands on.
-fn line_of(place: usize) -> usize
+/// How often each has come.
+#[derive(Clone, Copy, Default)]
+struct Tally {
+    taken: usize,
+    no_form: usize,
+    refused: usize,
+}
+
+impl Tally {
+    fn add(&mut self, outcome: Outcome) {
+        let count = match outcome {
+            Outcome::Taken => &mut self.taken,
+            Outcome::NoForm => &mut self.no_form,
+            Outcome::Refused => &mut self.refused,
+        };
+        *count = count.saturating_add(1);
+    }
+}
+
+/// How many lines of the good text end before a byte of it.
+fn lines_before(place: usize) -> usize
     requires { place < SIZE }
+    ensures { result ≤ place }
 {
     let before = GOOD.iter().take(place);
-    before.filter(|byte| **byte == b'\n').count() + 1
+    before.filter(|byte| **byte == b'\n').count()
+}
+
+/// What a text is answered with that the reader refuses at the text line of a byte of the good text.
+fn no_form_at(place: usize) -> [u8; 20]
+    requires { place < SIZE }
+{
+    let mut told = *b"(refused 1 text 13)\n";
+    told[9] += lines_before(place) as u8;
+    told
 }
 
 /// What comes of a text: taken, refused by a call, or refused by the reader as is told of the line that was damaged.
@@ -55,16 +84,15 @@ fn damaged(place: usize, value: u8) -> [u8; SIZE]
     text
 }
 
-/// Damages a byte to each other value, and says what comes of each.
-fn damage_at(rt: &HostRuntime, outcomes: &mut Vec<Outcome>, place: usize) -> io::Result<()>
+/// Damages a byte to each other value, and counts what comes of each.
+fn damage_at(rt: &HostRuntime, tally: &mut Tally, place: usize) -> io::Result<()>
     requires { place < SIZE }
 {
-    let line = line_of(place);
-    let no_form = format!(in rt.alloc(); "(refused {line} text 13)\n")?;
+    let no_form = no_form_at(place);
     for value in 0..=u8::MAX {
         if value != GOOD[place] {
-            match come_of(&damaged(place, value), no_form.as_bytes()) {
-                Some(come) => outcomes.push(come)?,
+            match come_of(&damaged(place, value), &no_form) {
+                Some(come) => tally.add(come),
                 None => println!(rt; "byte {place} as {value} is answered otherwise")?,
             }
         }
@@ -72,19 +100,16 @@ fn damage_at(rt: &HostRuntime, outcomes: &mut Vec<Outcome>, place: usize) -> io:
     Ok(())
 }
 
-/// How often an outcome has come.
-fn count(outcomes: &[Outcome], outcome: Outcome) -> usize {
-    outcomes.iter().filter(|come| **come == outcome).count()
-}
-
 /// Damages each byte.
 pub fn run(rt: &HostRuntime) -> io::Result<()> {
-    let mut outcomes = Vec::new(rt.alloc());
+    let mut tally = Tally::default();
     for place in 0..SIZE {
-        damage_at(rt, &mut outcomes, place)?;
+        damage_at(rt, &mut tally, place)?;
     }
-    let no_form = count(&outcomes, Outcome::NoForm);
-    let refused = count(&outcomes, Outcome::Refused);
-    let taken = count(&outcomes, Outcome::Taken);
+    let Tally {
+        taken,
+        no_form,
+        refused,
+    } = tally;
     println!(rt; "damaged: {no_form} refused by the reader, {refused} by a call, {taken} taken")
 }

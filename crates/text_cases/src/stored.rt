@@ -2,7 +2,7 @@
 //! lines `< ..` are the answer; `=` runs it.
 
 use crate::told::told;
-use std::alloc::{AllocError, Global};
+use std::alloc::AllocError;
 use std::io;
 
 /// How many bytes an answer of the table has at most.
@@ -44,33 +44,23 @@ impl Case {
     }
 }
 
-/// Of each case of the table, whether it is answered as the table has it.
-fn answered(alloc: Global, table: &[u8]) -> Result<Vec<bool>, AllocError> {
+/// Runs the cases of the table, and says which are answered otherwise, each when it is run, and how many there are.
+pub fn run(rt: &HostRuntime, table: &[u8]) -> io::Result<()> {
     let mut case = Case {
-        text: Vec::new(alloc),
-        expected: Vec::new(alloc),
+        text: Vec::new(rt.alloc()),
+        expected: Vec::new(rt.alloc()),
     };
-    let mut cases = Vec::new(alloc);
+    let (mut cases, mut right) = (0_usize, 0_usize);
     for line in table.split(|byte| *byte == b'\n') {
         case.take(line)?;
         if line == b"=".as_slice() {
-            cases.push(case.is_right())?;
+            cases = cases.saturating_add(1);
+            if case.is_right() {
+                right = right.saturating_add(1);
+            } else {
+                println!(rt; "case {cases} is answered otherwise")?;
+            }
         }
     }
-    Ok(cases)
-}
-
-/// Runs the cases of the table, and says how many there are and which are answered otherwise.
-pub fn run(rt: &HostRuntime, table: &[u8]) -> io::Result<()> {
-    let cases = answered(rt.alloc(), table)?;
-    for (before, is_right) in cases.iter().enumerate() {
-        if !*is_right {
-            println!(rt; "case {} is answered otherwise", before + 1)?;
-        }
-    }
-    let right = cases.iter().filter(|is_right| **is_right).count();
-    println!(rt;
-        "{right} of {} texts are answered as the table has it",
-        cases.len()
-    )
+    println!(rt; "{right} of {cases} texts are answered as the table has it")
 }
