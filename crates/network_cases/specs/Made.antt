@@ -1,7 +1,7 @@
 -- What a network made of a list of gaps tells. Assumes nothing.
 --     fits n g     a network with events 0 to n can have the gap
 --     made_of x     the meaning of the network
-use Rattle.std.specs.Prelude.{ℕ, ◌-◌, min, Bool, cond, ◌&&◌, pos, Some, None, nat_le, slice_index_or, unsigned_abs, vec_len}
+use Rattle.std.specs.Prelude.{ℕ, ◌-◌, min, Bool, cond, ◌&&◌, pos, Some, None, nat_le, slice_index_or, unsigned_abs}
 use Rattle.network.specs.declared.gap.Gap.{Gap}
 use Rattle.network.specs.declared.gap.Owner.TheVariants.{Line}
 use Rattle.network.specs.Meanings.{Meaning, unowned}
@@ -19,7 +19,7 @@ placed place places = nat_le 1 place && nat_le place places
 abbrev pub made_of : Made → Meaning
 made_of x = record {
   events = min x.events 1023;
-  places = min (vec_len x.gaps) 4096;
-  gap = λ place. cond (placed place (min (vec_len x.gaps) 4096) && fits (min x.events 1023) (slice_index_or x.gaps.items (place - 1) no_gap)) (Some (slice_index_or x.gaps.items (place - 1) no_gap)) None;
-  owner = λ place. cond (placed place (min (vec_len x.gaps) 4096)) (Line place) unowned;
+  places = min x.places 4096;
+  gap = λ place. cond (placed place (min x.places 4096) && fits (min x.events 1023) (slice_index_or x.gaps (place - 1) no_gap)) (Some (slice_index_or x.gaps (place - 1) no_gap)) None;
+  owner = λ place. cond (placed place (min x.places 4096)) (Line place) unowned;
 }

@@ -1,33 +1,52 @@
-//! Events and gaps, as a case gives them.
+//! Events, places and gaps, as a case gives them.
+
+ghost use Rattle.std.specs.Prelude.{◌≡◌, length};
 
 use network::gap::Gap;
-use std::alloc::{AllocError, Global};
 
 /// As many places as a network can have.
 pub const PLACES: usize = 4_096;
 
-/// So many events, and a place for each gap; a gap that a network could not have is passed over.
+/// A place that holds nothing of note.
+const NO_GAP: Gap = Gap {
+    left: 0,
+    reached: 0,
+    days: 0,
+};
+
+/// So many events and places; a gap that a network could not have is passed over.
 #[derive(Drop)]
 pub struct Made {
     pub events: usize,
-    pub gaps: Vec<Gap>,
+    pub places: usize,
+    pub gaps: [Gap; PLACES],
+    ghost filled: { length gaps ≡ 4096 },
 }
 
 impl Made {
     /// So many events, with a gap for each event left, event reached and days.
-    pub fn of(
-        alloc: Global,
-        events: usize,
-        listed: &[(usize, usize, i64)],
-    ) -> Result<Made, AllocError> {
-        let gaps = listed.iter().map(|(left, reached, days)| Gap {
-            left: *left,
-            reached: *reached,
-            days: *days,
-        });
-        Ok(Made {
+    pub fn of(events: usize, listed: &[(usize, usize, i64)]) -> Made {
+        let mut made = Made {
             events,
-            gaps: gaps.collect(alloc)?,
-        })
+            places: 0,
+            gaps: [NO_GAP; PLACES],
+        };
+        for (left, reached, days) in listed {
+            made.add(Gap {
+                left: *left,
+                reached: *reached,
+                days: *days,
+            });
+        }
+        made
+    }
+
+    /// One place more, with a gap in it, where there is room.
+    pub fn add(&mut self, gap: Gap) {
+        let next = self.places;
+        if next < PLACES {
+            self.gaps[next] = gap;
+            self.places = next + 1;
+        }
     }
 }

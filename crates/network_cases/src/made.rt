@@ -25,7 +25,7 @@ impl Network for Made {
     }
 
     fn places(&self) -> usize {
-        self.gaps.len().min(PLACES)
+        self.places.min(PLACES)
     }
 
     fn gap(&self, place: usize) -> Option<Gap> {

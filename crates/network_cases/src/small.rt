@@ -12,7 +12,7 @@ fn case(
     gaps: &[(usize, usize, i64)],
 ) -> io::Result<()> {
     println!(rt; "{what}")?;
-    print_all(rt, &Made::of(rt.alloc(), events, gaps)?)
+    print_all(rt, &Made::of(events, gaps))
 }
 
 /// Few gaps or none, and gaps from an event to itself.

@@ -5,7 +5,6 @@ ghost use Rattle.std.specs.Prelude.{◌<◌};
 use crate::gaps::{Made, PLACES};
 use crate::show::print_ends;
 use network::gap::Gap;
-use std::alloc::{AllocError, Global};
 use std::io;
 
 /// The number of the last event.
@@ -44,35 +43,35 @@ fn link_gap(links: Links, index: usize) -> Gap {
 }
 
 /// A chain of so many links.
-fn chain(alloc: Global, links: Links, places: usize) -> Result<Made, AllocError> {
-    let gaps = (0..places).map(|index| link_gap(links, index));
-    Ok(Made {
-        events: LAST,
-        gaps: gaps.collect(alloc)?,
-    })
+fn chain(links: Links, places: usize) -> Made {
+    let mut made = Made::of(LAST, &[]);
+    for index in 0..places {
+        made.add(link_gap(links, index));
+    }
+    made
 }
 
 /// The chain, with the last event due by day 99,999.
-fn closed(alloc: Global, links: Links) -> Result<Made, AllocError> {
-    let mut made = chain(alloc, links, PLACES - 1)?;
-    made.gaps.push(Gap {
+fn closed(links: Links) -> Made {
+    let mut made = chain(links, PLACES - 1);
+    made.add(Gap {
         left: LAST,
         reached: 0,
         days: -99_999,
-    })?;
-    Ok(made)
+    });
+    made
 }
 
 /// Solves each and prints its ends, or the size of its ring.
 pub fn run(rt: &HostRuntime) -> io::Result<()> {
     println!(rt; "1,023 links of 99,999 days")?;
-    print_ends(rt, &chain(rt.alloc(), Links::InOrder, PLACES)?)?;
+    print_ends(rt, &chain(Links::InOrder, PLACES))?;
     println!(rt; "the same reversed")?;
-    print_ends(rt, &chain(rt.alloc(), Links::Reversed, PLACES)?)?;
+    print_ends(rt, &chain(Links::Reversed, PLACES))?;
     println!(rt; "the same shuffled")?;
-    print_ends(rt, &chain(rt.alloc(), Links::Shuffled, PLACES)?)?;
+    print_ends(rt, &chain(Links::Shuffled, PLACES))?;
     println!(rt; "the last event by day 99,999")?;
-    print_ends(rt, &closed(rt.alloc(), Links::InOrder)?)?;
+    print_ends(rt, &closed(Links::InOrder))?;
     println!(rt; "the same shuffled")?;
-    print_ends(rt, &closed(rt.alloc(), Links::Shuffled)?)
+    print_ends(rt, &closed(Links::Shuffled))
 }
