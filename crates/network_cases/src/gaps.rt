@@ -15,6 +15,7 @@ const NO_GAP: Gap = Gap {
 };
 
 /// So many events and places; a gap that a network could not have is passed over.
+// A table of fixed size with its count beside: a Vec ran out of memory where the table does not.
 #[derive(Drop)]
 pub struct Made {
     pub events: usize,

@@ -24,6 +24,7 @@ enum Outcome {
 }
 
 /// How often each has come.
+// Counted as they come: gathered first, they take memory each.
 #[derive(Clone, Copy, Default)]
 struct Tally {
     taken: usize,

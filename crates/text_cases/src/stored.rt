@@ -50,6 +50,7 @@ pub fn run(rt: &HostRuntime, table: &[u8]) -> io::Result<()> {
         text: Vec::new(rt.alloc()),
         expected: Vec::new(rt.alloc()),
     };
+    // Counted as they come: gathered first, they take memory each, and a wrong one is told only after the last.
     let (mut cases, mut right) = (0_usize, 0_usize);
     for line in table.split(|byte| *byte == b'\n') {
         case.take(line)?;
