@@ -8,7 +8,7 @@ pub pull-requires : goal.pull-requires
 pull-requires c =
     let above = c.requires.above in
     record {
-      few = c.hinted_in.ensures;
+      few = omega arith;
       above = record { table = above.table; keeps = above.keeps; below = c.loop-passes.invariant.0 above.table above.keeps above.below };
       bound = c.loop-passes.invariant.1.1;
     }
