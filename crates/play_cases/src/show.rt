@@ -1,7 +1,7 @@
 //! What an issued plan tells, in words.
 
 use book::traits::Book;
-use network::gap::{Owner, Step};
+use network::gap::{Gap, Owner, Step};
 use network::network::Network;
 use plan::issued::IssuedPlan;
 use sheet::sheet::sheet;
@@ -26,9 +26,8 @@ impl fmt::Display for OwnerWords {
 
 /// Whether some gap leaves the event or reaches it.
 fn is_tied<N: Network>(network: &N, event: usize) -> bool {
-    (1..=network.places())
-        .filter_map(|place| network.gap(place))
-        .any(|gap| gap.left == event || gap.reached == event)
+    let ties = |gap: Gap| gap.left == event || gap.reached == event;
+    (1..=network.places()).any(|place| network.gap(place).is_some_and(ties))
 }
 
 /// Prints a step of a ring, with its owner.
